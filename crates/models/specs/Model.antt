@@ -1,0 +1,29 @@
+-- A model of jobs, and its runs. Assumes nothing: these are definitions.
+use Prim.Native.Nat.{ℕ, _<_}
+use mathlib.Core.Bool.{Bool}
+use mathlib.Core.List.{List, [], _∷_, map}
+use lib.Dec.{T}
+
+-- its states are the numbers below `states`; each has a letter, may be initial, and has successors
+pub record Model : Type 0 where
+  pub states : ℕ
+  pub letter : ℕ → ℕ
+  pub initial : ℕ → Bool
+  pub next : ℕ → ℕ → Bool
+
+-- each state of the row is allowed by the one before it, the first by `ok`
+abbrev pub Walk : Model → (ℕ → Bool) → List ℕ → Type 0
+Walk M ok [] = Unit {0}
+Walk M ok (s ∷ r) = (s < M .states) × T (ok s) × Walk M (M .next s) r
+
+abbrev pub NonEmpty : List ℕ → Type 0
+NonEmpty [] = ⊥
+NonEmpty (s ∷ r) = Unit {0}
+
+-- a run: one or more states, the first initial, each next a successor of the one before
+abbrev pub Run : Model → List ℕ → Type 0
+Run M r = NonEmpty r × Walk M (M .initial) r
+
+-- the letters that a run spells
+abbrev pub spelled : Model → List ℕ → List ℕ
+spelled M r = map (M .letter) r

@@ -1,0 +1,23 @@
+-- The weight of a rule: how many states its table has. Assumes nothing: these are definitions.
+use Prim.Native.Nat.{ℕ, _+_, _*_}
+use Rattle.rules.specs.declared.kinds.Pair.{Pair}
+use Rattle.rules.specs.declared.kinds.Pair.the-variants.{Then, Overlap, Either, Within, Both}
+use Rattle.rules.specs.Definition1.{Rule, letter, empty, two, again}
+
+-- the largest weight that is accepted
+abbrev pub weightLimit : ℕ
+weightLimit = 64
+
+-- of an operator, where its operands weigh m and n
+abbrev pub pairWeight : Pair → ℕ → ℕ → ℕ
+pairWeight Then m n = m + n
+pairWeight Overlap m n = m + n
+pairWeight Either m n = 1 + m + n
+pairWeight Within m n = 2 * (m * n) + 2 * m + 2 * n + 1
+pairWeight Both m n = m * n
+
+abbrev pub weightOf : Rule → ℕ
+weightOf (letter f) = 2
+weightOf empty = 1
+weightOf (two p a b) = pairWeight p (weightOf a) (weightOf b)
+weightOf (again p a) = weightOf a

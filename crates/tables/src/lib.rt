@@ -1,0 +1,1 @@
+// Builds the table of a rule in place in a lent slice.
