@@ -6,6 +6,7 @@ use mathlib.Core.Bool.{Bool, true, false, not, _&&_, _||_}
 use mathlib.Core.List.{List, [], _∷_, _++_}
 use lib.Dec.{T}
 use Rattle.bits.specs.Word.{bit}
+use Rattle.rules.specs.declared.kinds.Junction.{Junction}
 use Rattle.rules.specs.declared.kinds.Junction.the-variants.{And, Or}
 use Rattle.rules.specs.declared.kinds.Pair.the-variants.{Then, Overlap, Either, Within, Both}
 use Rattle.rules.specs.declared.kinds.Repeat.the-variants.{Star, Plus}
@@ -15,14 +16,21 @@ use Rattle.rules.specs.Definition1.{Formula, prop, yea, nay, neg, join, 
 abbrev pub letterCount : ℕ
 letterCount = 64
 
+-- the propositions are the numbers up to this
+abbrev pub lastProposition : ℕ
+lastProposition = 5
+
+abbrev pub joined : Junction → Bool → Bool → Bool
+joined And a b = a && b
+joined Or a b = a || b
+
 -- the formula holds in the letter x
 unfoldable pub holds : Formula → ℕ → Bool
 holds (prop i) x = bit x i
 holds yea x = true
 holds nay x = false
 holds (neg f) x = not (holds f x)
-holds (join And f g) x = holds f x && holds g x
-holds (join Or f g) x = holds f x || holds g x
+holds (join j f g) x = joined j (holds f x) (holds g x)
 
 -- w is one letter, of which f is true
 pub record OneLetter (f : ℕ → Bool) (w : List ℕ) : Type 0 where

@@ -2,3 +2,9 @@ pub mod Definition1
 pub mod Definition2
 pub mod Kinds
 pub mod Weight
+pub mod Refusals
+pub mod Reading
+pub mod Places
+pub mod Encoding
+pub mod Walks
+pub mod Answer

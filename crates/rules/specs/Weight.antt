@@ -8,6 +8,10 @@ use Rattle.rules.specs.Definition1.{Rule, letter, empty, two, again}
 abbrev pub weightLimit : ℕ
 weightLimit = 64
 
+-- a weight is counted up to one above it
+abbrev pub countedTo : ℕ
+countedTo = weightLimit + 1
+
 -- of an operator, where its operands weigh m and n
 abbrev pub pairWeight : Pair → ℕ → ℕ → ℕ
 pairWeight Then m n = m + n

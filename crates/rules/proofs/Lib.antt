@@ -1,0 +1,11 @@
+pub mod Scan
+pub mod Steps
+pub mod Unique
+pub mod Walks
+pub mod Weighing
+pub mod Evaluating
+pub mod Finish
+pub mod Encode
+pub mod Stands
+pub mod Ended
+pub mod Once

@@ -1,0 +1,40 @@
+-- No second answer fits the promise of `read_rule`: `told` loses nothing. Assumes nothing.
+use Prim.Native.Nat.{ℕ}
+use mathlib.Core.Path.{_≡_, refl, sym, ap, _∙_}
+use mathlib.Core.List.{List}
+use lib.Dec.{eqb}
+use Rattle.rules.specs.declared.Refusal.{Refusal}
+use Rattle.rules.specs.declared.Refusal.the-variants.{TooLong, Ended, UnknownKind, WrongSort, NoProposition, Leftover, TooHeavy}
+use Rattle.rules.specs.declared.RuleAnswer.{RuleAnswer}
+use Rattle.rules.specs.declared.RuleAnswer.the-variants.{Accepted, Refused}
+use Rattle.rules.specs.Kinds.{pick}
+use Rattle.rules.specs.Refusals.{number, place}
+use Rattle.rules.specs.Answer.{Result, accepted, refused, answer, told}
+
+-- the refusal of a number and a place
+abbrev named : ℕ → ℕ → Refusal
+named n p =
+    pick (eqb n 1) TooLong
+    (pick (eqb n 2) (Ended p)
+    (pick (eqb n 3) (UnknownKind p)
+    (pick (eqb n 4) (WrongSort p) (pick (eqb n 5) (NoProposition p) (pick (eqb n 6) (Leftover p) TooHeavy)))))
+
+abbrev meant : Result → RuleAnswer
+meant (accepted k) = Accepted k
+meant (refused n p) = Refused (named n p)
+
+named-told : (x : Refusal) → named (number x) (place x) ≡ x
+named-told TooLong = refl
+named-told (Ended p) = refl
+named-told (UnknownKind p) = refl
+named-told (WrongSort p) = refl
+named-told (NoProposition p) = refl
+named-told (Leftover p) = refl
+named-told TooHeavy = refl
+
+meant-told : (a : RuleAnswer) → meant (told a) ≡ a
+meant-told (Accepted k) = refl
+meant-told (Refused x) = ap Refused (named-told x)
+
+pub one-answer : (s : List ℕ) (a b : RuleAnswer) → told a ≡ answer s → told b ≡ answer s → a ≡ b
+one-answer s a b p q = sym (meant-told a) ∙ ap meant (p ∙ sym q) ∙ meant-told b

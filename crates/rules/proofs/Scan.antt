@@ -1,0 +1,77 @@
+-- Laws of `scan`: a step of it at a place of the bytes, the faults, and that it passes over what stands spelled.
+-- Assumes nothing.
+use Prim.Native.Nat.{ℕ, suc, _+_, _<_, _≤_}
+use native.Mathlib.Numerals.{add-one}
+use native.Mathlib.Omega.{arith}
+use mathlib.Core.Path.{_≡_, refl, sym, ap, subst, _∙_}
+use mathlib.Core.List.{List, [], _∷_}
+use lib.ListN.{length, getD, drop, drop-of-length-le}
+use lib.Seq.{drop-cons}
+use lib.Dec.{leb}
+use borrow.Author.Tests.{le-leb, lt-leb}
+use Rattle.rules.specs.declared.kinds.FormulaKind.{FormulaKind}
+use Rattle.rules.specs.declared.kinds.RuleKind.{RuleKind}
+use Rattle.rules.specs.declared.kinds.Kind.{Kind}
+use Rattle.rules.specs.declared.kinds.Kind.the-variants.{OfFormula, OfRule, Unknown}
+use Rattle.rules.specs.declared.Refusal.{Refusal}
+use Rattle.rules.specs.declared.Refusal.the-variants.{TooLong, Ended, UnknownKind, WrongSort, NoProposition, Leftover, TooHeavy}
+use Rattle.rules.specs.Definition1.{Formula, prop, yea, nay, neg, join, Rule, letter, empty, two, again}
+use Rattle.rules.specs.Kinds.{kindOf, pick}
+use Rattle.rules.specs.Reading.{Outcome, fault, Need, rule, formula, body, Value, Rest, scan, takeByte, takeRule, takeFormula}
+use Rattle.rules.specs.Places.{Here, FormulaAt, a-prop, a-yea, a-nay, a-neg, a-join, RuleAt, a-letter, a-empty, a-two, a-again}
+use Rattle.rules.specs.Walks.{Fails, shown}
+
+module _ (s : List ℕ) where
+  -- a byte is there: one step
+  step : (at : ℕ) → at < length s → (n : Need) (ns : List Need) (k : Value n → Rest ns) → scan (drop at s) (n ∷ ns) k at ≡ takeByte n (getD s at 0) (scan (drop (at + 1) s)) ns k at
+  step at h n ns k =
+      ap (λ (l : List ℕ). scan l (n ∷ ns) k at) (drop-cons s at 0 h)
+      ∙ ap (λ (j : ℕ). takeByte n (getD s at 0) (scan (drop j s)) ns k at) (sym (add-one at))
+
+  pub ended : (at : ℕ) (n : Need) → length s ≤ at → Fails s at n (Ended at)
+  ended at n h ns k = ap (λ (l : List ℕ). scan l (n ∷ ns) k at) (drop-of-length-le s h)
+
+  -- a byte of a known kind is there
+  pub seen-formula : {at : ℕ} {κ : Kind} → Here s at κ → (ns : List Need) (k : Formula → Rest ns) → scan (drop at s) (formula ∷ ns) k at ≡ takeFormula κ (scan (drop (at + 1) s)) ns k at
+  seen-formula {at} {κ} h ns k = step at (h .inside) formula ns k ∙ ap (λ (q : Kind). takeFormula q (scan (drop (at + 1) s)) ns k at) (h .says)
+
+  pub seen-rule : {at : ℕ} {κ : Kind} → Here s at κ → (ns : List Need) (k : Rule → Rest ns) → scan (drop at s) (rule ∷ ns) k at ≡ takeRule κ (scan (drop (at + 1) s)) ns k at
+  seen-rule {at} {κ} h ns k = step at (h .inside) rule ns k ∙ ap (λ (q : Kind). takeRule q (scan (drop (at + 1) s)) ns k at) (h .says)
+
+  -- a body byte is there
+  pub good-body : (at : ℕ) → at < length s → getD s at 0 ≤ 5 → (ns : List Need) (k : ℕ → Rest ns) → scan (drop at s) (body ∷ ns) k at ≡ scan (drop (at + 1) s) ns (k (getD s at 0)) (at + 1)
+  good-body at h l ns k = step at h body ns k ∙ rw (le-leb _ _ l)
+
+  pub bad-body : (at : ℕ) → at < length s → 5 < getD s at 0 → Fails s at body (NoProposition at)
+  bad-body at h l ns k = step at h body ns k ∙ rw (lt-leb _ _ l)
+
+  -- what stands spelled is passed over
+  pub over-formula : {at e : ℕ} {f : Formula} → FormulaAt s at f e → (ns : List Need) (k : Formula → Rest ns) → scan (drop at s) (formula ∷ ns) k at ≡ scan (drop e s) ns (k f) e
+  over-formula (a-prop {at} h l b le q) ns k =
+      seen-formula h ns k ∙ good-body (at + 1) l (rw b le) ns (λ j. k (prop j)) ∙ rw (b, q)
+  over-formula (a-yea h q) ns k = seen-formula h ns k ∙ rw q
+  over-formula (a-nay h q) ns k = seen-formula h ns k ∙ rw q
+  over-formula (a-neg h r) ns k = seen-formula h ns k ∙ over-formula r ns (λ g. k (neg g))
+  over-formula (a-join {j = j} {f = f} h a b) ns k =
+      seen-formula h ns k ∙ over-formula a (formula ∷ ns) (λ x y. k (join j x y)) ∙ over-formula b ns (λ y. k (join j f y))
+
+  pub over-rule : {at e : ℕ} {r : Rule} → RuleAt s at r e → (ns : List Need) (k : Rule → Rest ns) → scan (drop at s) (rule ∷ ns) k at ≡ scan (drop e s) ns (k r) e
+  over-rule (a-letter h r) ns k = seen-rule h ns k ∙ over-formula r ns (λ g. k (letter g))
+  over-rule (a-empty h q) ns k = seen-rule h ns k ∙ rw q
+  over-rule (a-again {p = p} h r) ns k = seen-rule h ns k ∙ over-rule r ns (λ x. k (again p x))
+  over-rule (a-two {p = p} {a = a} h x y) ns k =
+      seen-rule h ns k ∙ over-rule x (rule ∷ ns) (λ u v. k (two p u v)) ∙ over-rule y ns (λ v. k (two p a v))
+
+  -- what stands spelled has a byte, and is inside
+  pub formula-ends : {at e : ℕ} {f : Formula} → FormulaAt s at f e → (at < e) × (e ≤ length s)
+  formula-ends (a-prop h l b le q) = omega arith
+  formula-ends (a-yea h q) = omega arith
+  formula-ends (a-nay h q) = omega arith
+  formula-ends (a-neg h r) = let i = formula-ends r in omega arith
+  formula-ends (a-join h a b) = let i = formula-ends a in let i′ = formula-ends b in omega arith
+
+  pub rule-ends : {at e : ℕ} {r : Rule} → RuleAt s at r e → (at < e) × (e ≤ length s)
+  rule-ends (a-letter h r) = let i = formula-ends r in omega arith
+  rule-ends (a-empty h q) = omega arith
+  rule-ends (a-again h r) = let i = rule-ends r in omega arith
+  rule-ends (a-two h x y) = let i = rule-ends x in let i′ = rule-ends y in omega arith

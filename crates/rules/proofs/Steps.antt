@@ -1,0 +1,75 @@
+-- What the readers promise, put together from what their calls promise: one law for each arm. Assumes nothing.
+use Prim.Native.Nat.{ℕ, _+_, _<_, _≤_}
+use mathlib.Core.Path.{_≡_, refl, _∙_}
+use mathlib.Core.List.{List, [], _∷_}
+use lib.ListN.{length, getD}
+use Rattle.rules.specs.declared.kinds.Junction.{Junction}
+use Rattle.rules.specs.declared.kinds.FormulaKind.the-variants.{Proposition, Truth, Falsity, Not, Join}
+use Rattle.rules.specs.declared.kinds.Pair.{Pair}
+use Rattle.rules.specs.declared.kinds.Repeat.{Repeat}
+use Rattle.rules.specs.declared.kinds.RuleKind.{RuleKind}
+use Rattle.rules.specs.declared.kinds.RuleKind.the-variants.{Letter, Empty, Two, Again}
+use Rattle.rules.specs.declared.kinds.FormulaKind.{FormulaKind}
+use Rattle.rules.specs.declared.kinds.Kind.{Kind}
+use Rattle.rules.specs.declared.kinds.Kind.the-variants.{OfFormula, OfRule, Unknown}
+use Rattle.rules.specs.declared.Refusal.{Refusal}
+use Rattle.rules.specs.declared.Refusal.the-variants.{TooLong, Ended, UnknownKind, WrongSort, NoProposition, Leftover, TooHeavy}
+use Rattle.rules.specs.declared.ends.Read.{Read}
+use Rattle.rules.specs.declared.ends.Read.the-variants.{Ends, Refused}
+use Rattle.rules.specs.Definition1.{Formula, prop, yea, nay, neg, join, Rule, letter, empty, two, again}
+use Rattle.rules.specs.Reading.{Outcome, fault, Need, rule, formula, body, Value, Rest, scan, takeByte, takeRule, takeFormula}
+use Rattle.rules.specs.Places.{Here, FormulaAt, a-prop, a-yea, a-nay, a-neg, a-join, RuleAt, a-letter, a-empty, a-two, a-again}
+use Rattle.rules.specs.Walks.{Fails, BodyRead, FormulaRead, RuleRead, shown}
+use Rattle.rules.proofs.Scan.{seen-formula, seen-rule, over-formula, over-rule}
+
+module _ (s : List ℕ) (at : ℕ) where
+  pub f-unknown : Here s at Unknown → FormulaRead s at (Refused (UnknownKind at))
+  f-unknown h ns k = seen-formula s h ns k
+
+  pub f-wrong : (r : RuleKind) → Here s at (OfRule r) → FormulaRead s at (Refused (WrongSort at))
+  f-wrong r h ns k = seen-formula s h ns k
+
+  pub f-prop : Here s at (OfFormula Proposition) → (r : Read) → BodyRead s (at + 1) r → FormulaRead s at r
+  f-prop h (Ends e) (l, le, q) = (prop (getD s (at + 1) 0), a-prop h l refl le q)
+  f-prop h (Refused x) f = λ ns k. seen-formula s h ns k ∙ f ns (λ i. k (prop i))
+
+  pub f-yea : Here s at (OfFormula Truth) → FormulaRead s at (Ends (at + 1))
+  f-yea h = (yea, a-yea h refl)
+
+  pub f-nay : Here s at (OfFormula Falsity) → FormulaRead s at (Ends (at + 1))
+  f-nay h = (nay, a-nay h refl)
+
+  pub f-neg : Here s at (OfFormula Not) → (r : Read) → FormulaRead s (at + 1) r → FormulaRead s at r
+  f-neg h (Ends e) (f, d) = (neg f, a-neg h d)
+  f-neg h (Refused x) p = λ ns k. seen-formula s h ns k ∙ p ns (λ f. k (neg f))
+
+  pub f-join-bad : (j : Junction) → Here s at (OfFormula (Join j)) → (x : Refusal) → FormulaRead s (at + 1) (Refused x) → FormulaRead s at (Refused x)
+  f-join-bad j h x p ns k = seen-formula s h ns k ∙ p (formula ∷ ns) (λ f g. k (join j f g))
+
+  pub f-join : (j : Junction) → Here s at (OfFormula (Join j)) → (m : ℕ) → FormulaRead s (at + 1) (Ends m) → (r : Read) → FormulaRead s m r → FormulaRead s at r
+  f-join j h m (f, d) (Ends e) (g, d′) = (join j f g, a-join h d d′)
+  f-join j h m (f, d) (Refused x) p = λ ns k. seen-formula s h ns k ∙ over-formula s d (formula ∷ ns) (λ f g. k (join j f g)) ∙ p ns (λ g. k (join j f g))
+
+  pub r-unknown : Here s at Unknown → RuleRead s at (Refused (UnknownKind at))
+  r-unknown h ns k = seen-rule s h ns k
+
+  pub r-wrong : (f : FormulaKind) → Here s at (OfFormula f) → RuleRead s at (Refused (WrongSort at))
+  r-wrong f h ns k = seen-rule s h ns k
+
+  pub r-letter : Here s at (OfRule Letter) → (r : Read) → FormulaRead s (at + 1) r → RuleRead s at r
+  r-letter h (Ends e) (f, d) = (letter f, a-letter h d)
+  r-letter h (Refused x) p = λ ns k. seen-rule s h ns k ∙ p ns (λ f. k (letter f))
+
+  pub r-empty : Here s at (OfRule Empty) → RuleRead s at (Ends (at + 1))
+  r-empty h = (empty, a-empty h refl)
+
+  pub r-again : (p : Repeat) → Here s at (OfRule (Again p)) → (r : Read) → RuleRead s (at + 1) r → RuleRead s at r
+  r-again p h (Ends e) (a, d) = (again p a, a-again h d)
+  r-again p h (Refused x) f = λ ns k. seen-rule s h ns k ∙ f ns (λ a. k (again p a))
+
+  pub r-two-bad : (p : Pair) → Here s at (OfRule (Two p)) → (x : Refusal) → RuleRead s (at + 1) (Refused x) → RuleRead s at (Refused x)
+  r-two-bad p h x f ns k = seen-rule s h ns k ∙ f (rule ∷ ns) (λ a b. k (two p a b))
+
+  pub r-two : (p : Pair) → Here s at (OfRule (Two p)) → (m : ℕ) → RuleRead s (at + 1) (Ends m) → (r : Read) → RuleRead s m r → RuleRead s at r
+  r-two p h m (a, d) (Ends e) (b, d′) = (two p a b, a-two h d d′)
+  r-two p h m (a, d) (Refused x) f = λ ns k. seen-rule s h ns k ∙ over-rule s d (rule ∷ ns) (λ a b. k (two p a b)) ∙ f ns (λ b. k (two p a b))

@@ -1,0 +1,72 @@
+-- For every walk over a formula or a rule that is known to stand: what its kind byte tells of its operands. Assumes nothing.
+use Prim.Native.Nat.{ℕ, _+_, _<_, _≤_}
+use native.Mathlib.Omega.{arith}
+use mathlib.Core.Path.{_≡_}
+use mathlib.Core.List.{List}
+use lib.ListN.{length, getD}
+use Rattle.rules.specs.declared.kinds.FormulaKind.{FormulaKind}
+use Rattle.rules.specs.declared.kinds.FormulaKind.the-variants.{Proposition, Not, Join}
+use Rattle.rules.specs.declared.kinds.Junction.{Junction}
+use Rattle.rules.specs.declared.kinds.RuleKind.{RuleKind}
+use Rattle.rules.specs.declared.kinds.Pair.{Pair}
+use Rattle.rules.specs.declared.kinds.Repeat.{Repeat}
+use Rattle.rules.specs.declared.kinds.RuleKind.the-variants.{Letter, Two, Again}
+use Rattle.rules.specs.declared.kinds.Kind.the-variants.{OfFormula, OfRule, Unknown}
+use Rattle.rules.specs.Definition1.{Rule}
+use Rattle.rules.specs.Kinds.{kindOf}
+use Rattle.rules.specs.Places.{RuleAt, GoodFormula, GoodRule, FormulaEnds}
+use Rattle.rules.proofs.Scan.{rule-ends, formula-ends}
+use Rattle.rules.proofs.Unique.{rule-of, rule-inside, formula-of, formula-inside}
+
+module _ (s : List ℕ) (at : ℕ) (g : GoodRule s at) where
+  pub rule-here : at < length s
+  rule-here = rule-inside s (g .2)
+
+  pub not-unknown : kindOf (getD s at 0) ≡ Unknown → ⊥
+  not-unknown q = rule-of s Unknown (g .2) q
+
+  pub not-formula : (f : FormulaKind) → kindOf (getD s at 0) ≡ OfFormula f → ⊥
+  not-formula f q = rule-of s (OfFormula f) (g .2) q
+
+  pub good-letter : kindOf (getD s at 0) ≡ OfRule Letter → GoodFormula s (at + 1)
+  good-letter q = let i = rule-of s (OfRule Letter) (g .2) q in (i .0, g .1, i .2)
+
+  pub good-again : (p : Repeat) → kindOf (getD s at 0) ≡ OfRule (Again p) → GoodRule s (at + 1)
+  good-again p q = let i = rule-of s (OfRule (Again p)) (g .2) q in (i .0, g .1, i .2)
+
+  pub good-first : (p : Pair) → kindOf (getD s at 0) ≡ OfRule (Two p) → GoodRule s (at + 1)
+  good-first p q = let i = rule-of s (OfRule (Two p)) (g .2) q in (i .0, i .2, i .4)
+
+  -- the second operand stands where the first ends, and past `at`
+  pub good-second : (p : Pair) → kindOf (getD s at 0) ≡ OfRule (Two p) → (m : ℕ) → ((a : Rule) (e : ℕ) → RuleAt s (at + 1) a e → m ≡ e) → GoodRule s m × (at < m)
+  good-second p q m ends =
+      let i = rule-of s (OfRule (Two p)) (g .2) q in
+      let o = ends (i .0) (i .2) (i .4) in
+      let l = rule-ends s (i .4) in
+      (rw o (i .1, g .1, i .5), omega arith)
+
+module _ (s : List ℕ) (at : ℕ) (g : GoodFormula s at) where
+  pub formula-here : at < length s
+  formula-here = formula-inside s (g .2)
+
+  pub not-unknown′ : kindOf (getD s at 0) ≡ Unknown → ⊥
+  not-unknown′ q = formula-of s Unknown (g .2) q
+
+  pub not-rule : (r : RuleKind) → kindOf (getD s at 0) ≡ OfRule r → ⊥
+  not-rule r q = formula-of s (OfRule r) (g .2) q
+
+  pub good-body : kindOf (getD s at 0) ≡ OfFormula Proposition → (at + 1 < length s) × (getD s (at + 1) 0 ≤ 5)
+  good-body q = let i = formula-of s (OfFormula Proposition) (g .2) q in (i .1, i .2)
+
+  pub good-neg : kindOf (getD s at 0) ≡ OfFormula Not → GoodFormula s (at + 1)
+  good-neg q = let i = formula-of s (OfFormula Not) (g .2) q in (i .0, g .1, i .2)
+
+  pub good-left : (j : Junction) → kindOf (getD s at 0) ≡ OfFormula (Join j) → GoodFormula s (at + 1)
+  good-left j q = let i = formula-of s (OfFormula (Join j)) (g .2) q in (i .0, i .2, i .4)
+
+  pub good-right : (j : Junction) → kindOf (getD s at 0) ≡ OfFormula (Join j) → (m : ℕ) → FormulaEnds s (at + 1) m → GoodFormula s m × (at < m)
+  good-right j q m ends =
+      let i = formula-of s (OfFormula (Join j)) (g .2) q in
+      let o = ends (i .0) (i .2) (i .4) in
+      let l = formula-ends s (i .4) in
+      (rw o (i .1, g .1, i .5), omega arith)

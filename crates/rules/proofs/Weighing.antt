@@ -1,0 +1,72 @@
+-- Weights: each is at least 1, and counting up to one above the limit loses nothing that the limit asks. Assumes nothing.
+use Prim.Native.Nat.{ℕ, _+_, _*_, _≤_, min}
+use native.Mathlib.Omega.{arith}
+use native.Mathlib.Nat.{mul-le-mul}
+use native.Mathlib.Decide.{decLe}
+use mathlib.Core.Logic.{_⊎_, inl, inr, ⊎-elim}
+use mathlib.Core.Path.{_≡_, sym, ap, _∙_}
+use mathlib.Core.List.{List}
+use lib.ListN.{getD}
+use Rattle.rules.specs.declared.kinds.Pair.{Pair}
+use Rattle.rules.specs.declared.kinds.Pair.the-variants.{Then, Overlap, Either, Within, Both}
+use Rattle.rules.specs.declared.kinds.Repeat.{Repeat}
+use Rattle.rules.specs.declared.kinds.RuleKind.the-variants.{Letter, Empty, Two, Again}
+use Rattle.rules.specs.declared.kinds.Kind.the-variants.{OfRule}
+use Rattle.rules.specs.declared.weights.Weighed.{Weighed}
+use Rattle.rules.specs.Definition1.{Rule, letter, empty, two, again}
+use Rattle.rules.specs.Kinds.{kindOf}
+use Rattle.rules.specs.Weight.{pairWeight, weightOf, countedTo}
+use Rattle.rules.specs.Places.{FormulaEnds}
+use Rattle.rules.specs.Walks.{WeighedAs}
+use Rattle.rules.proofs.Unique.{rule-of}
+
+pub weight-pos : (r : Rule) → 1 ≤ weightOf r
+weight-pos (letter f) = omega arith
+weight-pos empty = omega arith
+weight-pos (again p a) = weight-pos a
+weight-pos (two p a b) = at-least p (weightOf a) (weightOf b) (weight-pos a) (weight-pos b)
+  where
+    at-least : (p : Pair) (m n : ℕ) → 1 ≤ m → 1 ≤ n → 1 ≤ pairWeight p m n
+    at-least Then m n h k = omega arith
+    at-least Overlap m n h k = omega arith
+    at-least Either m n h k = omega arith
+    at-least Within m n h k = omega arith
+    at-least Both m n h k = mul-le-mul h k
+
+product : (m n : ℕ) → 1 ≤ m → 1 ≤ n → (min countedTo m * min countedTo n ≡ m * n) ⊎ ((65 ≤ min countedTo m * min countedTo n) × (65 ≤ m * n))
+product m n h k = go (decLe m 65) (decLe n 65)
+  where
+    go : Dec (m ≤ 65) → Dec (n ≤ 65) → (min countedTo m * min countedTo n ≡ m * n) ⊎ ((65 ≤ min countedTo m * min countedTo n) × (65 ≤ m * n))
+    go (yes a) (yes b) = inl (let e : min countedTo m ≡ m = omega arith in let e′ : min countedTo n ≡ n = omega arith in cc)
+    go (no a) d = inr (mul-le-mul {n₁ = 65} {m₁ = 1} (omega arith) (omega arith), mul-le-mul {n₁ = 65} {m₁ = 1} (omega arith) k)
+    go (yes a) (no b) = inr (mul-le-mul {n₁ = 1} {m₁ = 65} (omega arith) (omega arith), mul-le-mul {n₁ = 1} {m₁ = 65} h (omega arith))
+
+capped-pair : (p : Pair) (m n : ℕ) → 1 ≤ m → 1 ≤ n → min countedTo (pairWeight p (min countedTo m) (min countedTo n)) ≡ min countedTo (pairWeight p m n)
+capped-pair Then m n h k = omega arith
+capped-pair Overlap m n h k = omega arith
+capped-pair Either m n h k = omega arith
+capped-pair Within m n h k = ⊎-elim (λ e. omega arith) (λ w. omega arith) (product m n h k)
+capped-pair Both m n h k = ⊎-elim (λ e. omega arith) (λ w. omega arith) (product m n h k)
+
+two-weight : (p : Pair) (a b : Rule) (x y : ℕ) → x ≡ min countedTo (weightOf a) → y ≡ min countedTo (weightOf b) → min countedTo (pairWeight p x y) ≡ min countedTo (weightOf (two p a b))
+two-weight p a b x y q q′ = rw (q, q′) (capped-pair p (weightOf a) (weightOf b) (weight-pos a) (weight-pos b))
+
+pub capped-small : (x y : ℕ) → x ≡ min countedTo y → x ≤ 65
+capped-small x y q = omega arith
+
+module _ (s : List ℕ) (at : ℕ) where
+  pub w-letter : kindOf (getD s at 0) ≡ OfRule Letter → (x : ℕ) → FormulaEnds s (at + 1) x → WeighedAs s at (record { weight = 2; end = x })
+  w-letter q x fe r e d = let i = rule-of s (OfRule Letter) d q in (rw (i .1), fe (i .0) e (i .2))
+
+  pub w-empty : kindOf (getD s at 0) ≡ OfRule Empty → WeighedAs s at (record { weight = 1; end = at + 1 })
+  w-empty q r e d = let i = rule-of s (OfRule Empty) d q in (rw (i .0), i .1)
+
+  pub w-again : (p : Repeat) → kindOf (getD s at 0) ≡ OfRule (Again p) → (w : Weighed) → WeighedAs s (at + 1) w → WeighedAs s at w
+  w-again p q w ih r e d = let i = rule-of s (OfRule (Again p)) d q in let o = ih (i .0) e (i .2) in (rw (i .1) (o .0), o .1)
+
+  pub w-two : (p : Pair) → kindOf (getD s at 0) ≡ OfRule (Two p) → (a b : Weighed) → WeighedAs s (at + 1) a → WeighedAs s (a .end) b → (w : ℕ) → w ≡ min countedTo (pairWeight p (a .weight) (b .weight)) → WeighedAs s at (record { weight = w; end = b .end })
+  w-two p q a b ih ih′ w h r e d =
+      let i = rule-of s (OfRule (Two p)) d q in
+      let o = ih (i .0) (i .2) (i .4) in
+      let o′ = ih′ (i .1) e (rw (o .1) (i .5)) in
+      (h ∙ two-weight p (i .0) (i .1) (a .weight) (b .weight) (o .0) (o′ .0) ∙ ap (λ (x : Rule). min countedTo (weightOf x)) (sym (i .3)), o′ .1)

@@ -1,0 +1,142 @@
+-- The proof of the cycle of calls {rule_end}. The measure is what is left of the slice from `at` on. Assumes nothing.
+use Prim.Native.Nat.{ℕ, _+_, _<_, _-_}
+use mathlib.Core.Path.{_≡_, sym, ap, subst, _∙_}
+use native.Mathlib.Omega.{arith}
+use lib.ListN.{length}
+use borrow.Author.Needs.{needs}
+use Rattle.rules.specs.Reading.{rule}
+use Rattle.rules.specs.Walks.{RuleRead}
+use Rattle.rules.proofs.Scan.{ended, rule-ends}
+use Rattle.rules.proofs.Steps.{r-unknown, r-wrong, r-letter, r-empty, r-again, r-two-bad, r-two}
+use borrow.Fn.Kinds.{In}
+use borrow.Fn.PlainCycle.{Measures, is, falls, and}
+use Rattle.rules.proofs.ends.rule_end.Reads as rule-end
+use Rattle.rules.proofs.ends.rule_end.Kinds as rule-end-kinds
+use Rattle.rules.proofs.ends.+rule_end.Lts-rule_end as rule-end-lts
+use Rattle.rules.proofs.ends.formula_end.Reads as formula-end-reads
+use Rattle.rules.proofs.kinds.kind_of.Reads as kind-of-reads
+use Rattle.rules.proofs.ends.+rule_end.{statement}
+use Rattle.rules.proofs.ends.+rule_end.Tie.{close}
+
+abbrev μ-rule-end : Measures 1 rule-end-kinds.ps ℕ
+μ-rule-end κs a = length (a .0 .now) - a .1 .0
+
+abbrev rule-end-at : ℕ → In 1 rule-end-kinds.ps
+rule-end-at t = and 1 rule-end-kinds.ps (is 1 rule-end-kinds.ps μ-rule-end t) rule-end.Pre
+
+abbrev rule-end-below : ℕ → In 1 rule-end-kinds.ps
+rule-end-below t =
+    and 1 rule-end-kinds.ps (falls 1 rule-end-kinds.ps _<_ μ-rule-end t) rule-end.Pre
+
+rule-end-returns : (t : ℕ) → rule-end-lts.Need-returns (kind-of-reads.Asked, kind-of-reads.Learnt, formula-end-reads.Asked, formula-end-reads.Learnt, rule-end-below t, rule-end.Post) (rule-end-at t) rule-end.Post
+rule-end-returns t c = ended _ _ rule (c .if1 .taken)
+
+rule-end-shared-slice-read-kind-of : (t : ℕ) → rule-end-lts.Need-shared-slice-read-kind-of (kind-of-reads.Asked, kind-of-reads.Learnt, formula-end-reads.Asked, formula-end-reads.Learnt, rule-end-below t, rule-end.Post) (rule-end-at t) rule-end.Post
+rule-end-shared-slice-read-kind-of t c = search needs
+
+rule-end-kind-of-requires : (t : ℕ) → rule-end-lts.Need-kind-of-requires (kind-of-reads.Asked, kind-of-reads.Learnt, formula-end-reads.Asked, formula-end-reads.Learnt, rule-end-below t, rule-end.Post) (rule-end-at t) rule-end.Post
+rule-end-kind-of-requires t c κs = search needs
+
+rule-end-enum-told : (t : ℕ) → rule-end-lts.Need-enum-told (kind-of-reads.Asked, kind-of-reads.Learnt, formula-end-reads.Asked, formula-end-reads.Learnt, rule-end-below t, rule-end.Post) (rule-end-at t) rule-end.Post
+rule-end-enum-told t c = search needs
+
+rule-end-enum-told-2 : (t : ℕ) → rule-end-lts.Need-enum-told-2 (kind-of-reads.Asked, kind-of-reads.Learnt, formula-end-reads.Asked, formula-end-reads.Learnt, rule-end-below t, rule-end.Post) (rule-end-at t) rule-end.Post
+rule-end-enum-told-2 t c = search needs
+
+rule-end-enum-known-k : (t : ℕ) → rule-end-lts.Need-enum-known-k (kind-of-reads.Asked, kind-of-reads.Learnt, formula-end-reads.Asked, formula-end-reads.Learnt, rule-end-below t, rule-end.Post) (rule-end-at t) rule-end.Post
+rule-end-enum-known-k t c = search needs
+
+rule-end-enum-told-3 : (t : ℕ) → rule-end-lts.Need-enum-told-3 (kind-of-reads.Asked, kind-of-reads.Learnt, formula-end-reads.Asked, formula-end-reads.Learnt, rule-end-below t, rule-end.Post) (rule-end-at t) rule-end.Post
+rule-end-enum-told-3 t c = search needs
+
+rule-end-add-formula-end : (t : ℕ) → rule-end-lts.Need-add-formula-end (kind-of-reads.Asked, kind-of-reads.Learnt, formula-end-reads.Asked, formula-end-reads.Learnt, rule-end-below t, rule-end.Post) (rule-end-at t) rule-end.Post
+rule-end-add-formula-end t c = search needs
+
+rule-end-formula-end-requires : (t : ℕ) → rule-end-lts.Need-formula-end-requires (kind-of-reads.Asked, kind-of-reads.Learnt, formula-end-reads.Asked, formula-end-reads.Learnt, rule-end-below t, rule-end.Post) (rule-end-at t) rule-end.Post
+rule-end-formula-end-requires t c κs = search needs
+
+rule-end-enum-told-4 : (t : ℕ) → rule-end-lts.Need-enum-told-4 (kind-of-reads.Asked, kind-of-reads.Learnt, formula-end-reads.Asked, formula-end-reads.Learnt, rule-end-below t, rule-end.Post) (rule-end-at t) rule-end.Post
+rule-end-enum-told-4 t c = search needs
+
+rule-end-add-t17 : (t : ℕ) → rule-end-lts.Need-add-t17 (kind-of-reads.Asked, kind-of-reads.Learnt, formula-end-reads.Asked, formula-end-reads.Learnt, rule-end-below t, rule-end.Post) (rule-end-at t) rule-end.Post
+rule-end-add-t17 t c = search needs
+
+rule-end-enum-told-5 : (t : ℕ) → rule-end-lts.Need-enum-told-5 (kind-of-reads.Asked, kind-of-reads.Learnt, formula-end-reads.Asked, formula-end-reads.Learnt, rule-end-below t, rule-end.Post) (rule-end-at t) rule-end.Post
+rule-end-enum-told-5 t c = search needs
+
+rule-end-add-rule-end : (t : ℕ) → rule-end-lts.Need-add-rule-end (kind-of-reads.Asked, kind-of-reads.Learnt, formula-end-reads.Asked, formula-end-reads.Learnt, rule-end-below t, rule-end.Post) (rule-end-at t) rule-end.Post
+rule-end-add-rule-end t c = search needs
+
+rule-end-rule-end-requires : (t : ℕ) → rule-end-lts.Need-rule-end-requires (kind-of-reads.Asked, kind-of-reads.Learnt, formula-end-reads.Asked, formula-end-reads.Learnt, rule-end-below t, rule-end.Post) (rule-end-at t) rule-end.Post
+rule-end-rule-end-requires t c κs = (omega arith, tt)
+
+rule-end-enum-told-6 : (t : ℕ) → rule-end-lts.Need-enum-told-6 (kind-of-reads.Asked, kind-of-reads.Learnt, formula-end-reads.Asked, formula-end-reads.Learnt, rule-end-below t, rule-end.Post) (rule-end-at t) rule-end.Post
+rule-end-enum-told-6 t c = search needs
+
+rule-end-add-rule-end-2 : (t : ℕ) → rule-end-lts.Need-add-rule-end-2 (kind-of-reads.Asked, kind-of-reads.Learnt, formula-end-reads.Asked, formula-end-reads.Learnt, rule-end-below t, rule-end.Post) (rule-end-at t) rule-end.Post
+rule-end-add-rule-end-2 t c = search needs
+
+rule-end-rule-end-requires-2 : (t : ℕ) → rule-end-lts.Need-rule-end-requires-2 (kind-of-reads.Asked, kind-of-reads.Learnt, formula-end-reads.Asked, formula-end-reads.Learnt, rule-end-below t, rule-end.Post) (rule-end-at t) rule-end.Post
+rule-end-rule-end-requires-2 t c κs = (omega arith, tt)
+
+rule-end-enum-known-x : (t : ℕ) → rule-end-lts.Need-enum-known-x (kind-of-reads.Asked, kind-of-reads.Learnt, formula-end-reads.Asked, formula-end-reads.Learnt, rule-end-below t, rule-end.Post) (rule-end-at t) rule-end.Post
+rule-end-enum-known-x t c = search needs
+
+rule-end-enum-known-m : (t : ℕ) → rule-end-lts.Need-enum-known-m (kind-of-reads.Asked, kind-of-reads.Learnt, formula-end-reads.Asked, formula-end-reads.Learnt, rule-end-below t, rule-end.Post) (rule-end-at t) rule-end.Post
+rule-end-enum-known-m t c = search needs
+
+rule-end-rule-end-requires-3 : (t : ℕ) → rule-end-lts.Need-rule-end-requires-3 (kind-of-reads.Asked, kind-of-reads.Learnt, formula-end-reads.Asked, formula-end-reads.Learnt, rule-end-below t, rule-end.Post) (rule-end-at t) rule-end.Post
+rule-end-rule-end-requires-3 t c κs = let s = c .before .before .before .before .before .before .before .before .before .before .before .before .before .args .rule .now in let at = c .before .before .before .before .before .before .before .before .before .before .before .before .before .args .at in let fr = subst (RuleRead s (at + 1)) (c .before .m .given .1) (c .before .before .before .rule-end2 .ensures) in let i = rule-ends s (fr .1) in (omega arith, tt)
+
+rule-end-returns-2 : (t : ℕ) → rule-end-lts.Need-returns-2 (kind-of-reads.Asked, kind-of-reads.Learnt, formula-end-reads.Asked, formula-end-reads.Learnt, rule-end-below t, rule-end.Post) (rule-end-at t) rule-end.Post
+rule-end-returns-2 t c = r-unknown _ _ (record { inside = omega arith; says = cc })
+
+rule-end-returns-3 : (t : ℕ) → rule-end-lts.Need-returns-3 (kind-of-reads.Asked, kind-of-reads.Learnt, formula-end-reads.Asked, formula-end-reads.Learnt, rule-end-below t, rule-end.Post) (rule-end-at t) rule-end.Post
+rule-end-returns-3 t c = r-wrong _ _ (c .enum-told2 .given .0 .0) (record { inside = omega arith; says = cc })
+
+rule-end-returns-4 : (t : ℕ) → rule-end-lts.Need-returns-4 (kind-of-reads.Asked, kind-of-reads.Learnt, formula-end-reads.Asked, formula-end-reads.Learnt, rule-end-below t, rule-end.Post) (rule-end-at t) rule-end.Post
+rule-end-returns-4 t c = let s = c .before .before .before .before .before .before .before .before .before .before .args .rule .now in let at = c .before .before .before .before .before .before .before .before .before .before .args .at in r-letter s at (record { inside = omega arith; says = cc }) (c .formula-end .result) (c .formula-end .ensures)
+
+rule-end-returns-5 : (t : ℕ) → rule-end-lts.Need-returns-5 (kind-of-reads.Asked, kind-of-reads.Learnt, formula-end-reads.Asked, formula-end-reads.Learnt, rule-end-below t, rule-end.Post) (rule-end-at t) rule-end.Post
+rule-end-returns-5 t c = r-empty _ _ (record { inside = omega arith; says = cc })
+
+rule-end-returns-6 : (t : ℕ) → rule-end-lts.Need-returns-6 (kind-of-reads.Asked, kind-of-reads.Learnt, formula-end-reads.Asked, formula-end-reads.Learnt, rule-end-below t, rule-end.Post) (rule-end-at t) rule-end.Post
+rule-end-returns-6 t c = let s = c .before .before .before .before .before .before .before .before .before .before .args .rule .now in let at = c .before .before .before .before .before .before .before .before .before .before .args .at in r-again s at (c .before .enum-told5 .given .0 .0) (record { inside = omega arith; says = cc }) (c .rule-end .result) (c .rule-end .ensures)
+
+rule-end-returns-7 : (t : ℕ) → rule-end-lts.Need-returns-7 (kind-of-reads.Asked, kind-of-reads.Learnt, formula-end-reads.Asked, formula-end-reads.Learnt, rule-end-below t, rule-end.Post) (rule-end-at t) rule-end.Post
+rule-end-returns-7 t c = let s = c .before .before .before .before .before .before .before .before .before .before .before .before .before .args .rule .now in let at = c .before .before .before .before .before .before .before .before .before .before .before .before .before .args .at in r-two-bad s at (c .before .before .before .before .enum-told6 .given .0 .0) (record { inside = omega arith; says = cc }) (c .before .x .given .0 .0) (subst (RuleRead s (at + 1)) (c .before .x .given .1) (c .before .before .before .rule-end2 .ensures))
+
+rule-end-returns-8 : (t : ℕ) → rule-end-lts.Need-returns-8 (kind-of-reads.Asked, kind-of-reads.Learnt, formula-end-reads.Asked, formula-end-reads.Learnt, rule-end-below t, rule-end.Post) (rule-end-at t) rule-end.Post
+rule-end-returns-8 t c = let s = c .before .before .before .before .before .before .before .before .before .before .before .before .before .before .args .rule .now in let at = c .before .before .before .before .before .before .before .before .before .before .before .before .before .before .args .at in r-two s at (c .before .before .before .before .before .enum-told6 .given .0 .0) (record { inside = omega arith; says = cc }) (c .before .before .m .given .0 .0) (subst (RuleRead s (at + 1)) (c .before .before .m .given .1) (c .before .before .before .before .rule-end2 .ensures)) (c .rule-end3 .result) (c .rule-end3 .ensures)
+
+pub +rule-end-spec : {M : Type 1} → statement M
++rule-end-spec = close μ-rule-end λ t. rule-end-lts.spec (kind-of-reads.Asked, kind-of-reads.Learnt, formula-end-reads.Asked, formula-end-reads.Learnt, rule-end-below t, rule-end.Post)
+    (rule-end-at t)
+    rule-end.Post
+    (rule-end-returns t)
+    (rule-end-shared-slice-read-kind-of t)
+    (rule-end-kind-of-requires t)
+    (rule-end-enum-told t)
+    (rule-end-enum-told-2 t)
+    (rule-end-enum-known-k t)
+    (rule-end-enum-told-3 t)
+    (rule-end-add-formula-end t)
+    (rule-end-formula-end-requires t)
+    (rule-end-enum-told-4 t)
+    (rule-end-add-t17 t)
+    (rule-end-enum-told-5 t)
+    (rule-end-add-rule-end t)
+    (rule-end-rule-end-requires t)
+    (rule-end-enum-told-6 t)
+    (rule-end-add-rule-end-2 t)
+    (rule-end-rule-end-requires-2 t)
+    (rule-end-enum-known-x t)
+    (rule-end-enum-known-m t)
+    (rule-end-rule-end-requires-3 t)
+    (rule-end-returns-2 t)
+    (rule-end-returns-3 t)
+    (rule-end-returns-4 t)
+    (rule-end-returns-5 t)
+    (rule-end-returns-6 t)
+    (rule-end-returns-7 t)
+    (rule-end-returns-8 t)

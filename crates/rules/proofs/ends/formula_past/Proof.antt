@@ -1,0 +1,30 @@
+-- `rules::formula_past` meets its contract: where a formula stands, reading it comes to its end. Assumes nothing.
+use Prim.Native.Nat.{ℕ}
+use mathlib.Core.Path.{_≡_}
+use native.Mathlib.Omega.{arith}
+use borrow.Author.Needs.{needs}
+use Rattle.rules.proofs.Unique.{formula-read}
+use Rattle.rules.proofs.ends.formula_past.Statement.{statement}
+use Rattle.rules.proofs.ends.formula_past.Tie as tie
+use Rattle.rules.proofs.ends.formula_past.Reads as reads
+use Rattle.rules.proofs.ends.formula_past.Lts as lts
+use Rattle.rules.proofs.ends.formula_end.Reads as formula-end-reads
+
+formula-end-requires : tie.Need-formula-end-requires
+formula-end-requires c κs = search needs
+
+enum-known-e : tie.Need-enum-known-e
+enum-known-e c = search needs
+
+enum-told : tie.Need-enum-told
+enum-told c = search needs
+
+returns : tie.Need-returns
+returns c = λ f e d. let q = formula-read _ _ (c .before .before .formula-end .result) (c .before .before .formula-end .ensures) f e d in let z : _≡_ {A = ℕ} 0 1 = cc in omega arith
+
+returns-2 : tie.Need-returns-2
+returns-2 c = λ f e d. let q = formula-read _ _ (c .before .before .before .formula-end .result) (c .before .before .before .formula-end .ensures) f e d in cc
+
+pub formula-past-spec : {M : Type 1} → statement M
+formula-past-spec =
+    tie.close (tie.spec formula-end-requires enum-known-e enum-told returns returns-2)

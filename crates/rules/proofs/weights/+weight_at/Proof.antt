@@ -1,0 +1,136 @@
+-- The proof of the cycle of calls {weight_at}. The measure is what is left of the slice from `at` on. Assumes nothing.
+use Prim.Native.Nat.{ℕ, _+_, _<_, _-_, min}
+use mathlib.Core.Path.{_≡_, sym, ap, subst, _∙_}
+use native.Mathlib.Omega.{arith}
+use lib.ListN.{length, getD}
+use borrow.Author.Needs.{needs}
+use Rattle.rules.specs.declared.kinds.RuleKind.the-variants.{Letter, Empty, Two, Again}
+use Rattle.rules.specs.declared.kinds.Kind.the-variants.{OfFormula, OfRule, Unknown}
+use Rattle.rules.specs.Kinds.{kindOf}
+use Rattle.rules.specs.Weight.{weightOf}
+use Rattle.rules.proofs.Walks.{rule-here, not-unknown, not-formula, good-letter, good-again, good-first, good-second}
+use Rattle.rules.proofs.Weighing.{w-letter, w-empty, w-again, w-two, capped-small}
+use borrow.Fn.Kinds.{In}
+use borrow.Fn.PlainCycle.{Measures, is, falls, and}
+use Rattle.rules.proofs.weights.weight_at.Reads as weight-at
+use Rattle.rules.proofs.weights.weight_at.Kinds as weight-at-kinds
+use Rattle.rules.proofs.weights.+weight_at.Lts-weight_at as weight-at-lts
+use Rattle.rules.proofs.ends.formula_past.Reads as formula-past-reads
+use Rattle.rules.proofs.kinds.kind_of.Reads as kind-of-reads
+use Rattle.rules.proofs.weights.weight_of_pair.Reads as weight-of-pair-reads
+use Rattle.rules.proofs.weights.+weight_at.{statement}
+use Rattle.rules.proofs.weights.+weight_at.Tie.{close}
+
+abbrev μ-weight-at : Measures 1 weight-at-kinds.ps ℕ
+μ-weight-at κs a = length (a .0 .now) - a .1 .0
+
+abbrev weight-at-at : ℕ → In 1 weight-at-kinds.ps
+weight-at-at t = and 1 weight-at-kinds.ps (is 1 weight-at-kinds.ps μ-weight-at t) weight-at.Pre
+
+abbrev weight-at-below : ℕ → In 1 weight-at-kinds.ps
+weight-at-below t =
+    and 1 weight-at-kinds.ps (falls 1 weight-at-kinds.ps _<_ μ-weight-at t) weight-at.Pre
+
+abbrev calls : ℕ → weight-at-lts.Claims
+calls t = (kind-of-reads.Asked, kind-of-reads.Learnt, formula-past-reads.Asked, formula-past-reads.Learnt, weight-at-below t, weight-at.Post, weight-of-pair-reads.Asked, weight-of-pair-reads.Learnt)
+
+weight-at-shared-slice-read-kind-of : (t : ℕ) → weight-at-lts.Need-shared-slice-read-kind-of (calls t) (weight-at-at t) weight-at.Post
+weight-at-shared-slice-read-kind-of t c = let s = c .before .before .args .rule .now in let at = c .before .before .args .at in let g = c .before .before .pre .1 in let l = rule-here s at g in l
+
+weight-at-kind-of-requires : (t : ℕ) → weight-at-lts.Need-kind-of-requires (calls t) (weight-at-at t) weight-at.Post
+weight-at-kind-of-requires t c κs = search needs
+
+weight-at-enum-told : (t : ℕ) → weight-at-lts.Need-enum-told (calls t) (weight-at-at t) weight-at.Post
+weight-at-enum-told t c = search needs
+
+weight-at-enum-told-2 : (t : ℕ) → weight-at-lts.Need-enum-told-2 (calls t) (weight-at-at t) weight-at.Post
+weight-at-enum-told-2 t c = search needs
+
+weight-at-enum-known-k : (t : ℕ) → weight-at-lts.Need-enum-known-k (calls t) (weight-at-at t) weight-at.Post
+weight-at-enum-known-k t c = search needs
+
+weight-at-enum-told-3 : (t : ℕ) → weight-at-lts.Need-enum-told-3 (calls t) (weight-at-at t) weight-at.Post
+weight-at-enum-told-3 t c = search needs
+
+weight-at-add-formula-past : (t : ℕ) → weight-at-lts.Need-add-formula-past (calls t) (weight-at-at t) weight-at.Post
+weight-at-add-formula-past t c = let s = c .before .before .before .before .before .before .before .before .args .rule .now in let at = c .before .before .before .before .before .before .before .before .args .at in let g = c .before .before .before .before .before .before .before .before .pre .1 in let l = rule-here s at g in omega arith
+
+weight-at-formula-past-requires : (t : ℕ) → weight-at-lts.Need-formula-past-requires (calls t) (weight-at-at t) weight-at.Post
+weight-at-formula-past-requires t c κs = let s = c .before .before .before .before .before .before .before .before .args .rule .now in let at = c .before .before .before .before .before .before .before .before .args .at in let g = c .before .before .before .before .before .before .before .before .pre .1 in let l = rule-here s at g in let q : kindOf (getD s at 0) ≡ OfRule Letter = cc in good-letter s at g q
+
+weight-at-enum-told-4 : (t : ℕ) → weight-at-lts.Need-enum-told-4 (calls t) (weight-at-at t) weight-at.Post
+weight-at-enum-told-4 t c = search needs
+
+weight-at-add-t15 : (t : ℕ) → weight-at-lts.Need-add-t15 (calls t) (weight-at-at t) weight-at.Post
+weight-at-add-t15 t c = let s = c .before .before .before .before .before .before .before .before .args .rule .now in let at = c .before .before .before .before .before .before .before .before .args .at in let g = c .before .before .before .before .before .before .before .before .pre .1 in let l = rule-here s at g in omega arith
+
+weight-at-enum-told-5 : (t : ℕ) → weight-at-lts.Need-enum-told-5 (calls t) (weight-at-at t) weight-at.Post
+weight-at-enum-told-5 t c = search needs
+
+weight-at-add-weight-at : (t : ℕ) → weight-at-lts.Need-add-weight-at (calls t) (weight-at-at t) weight-at.Post
+weight-at-add-weight-at t c = let s = c .before .before .before .before .before .before .before .before .args .rule .now in let at = c .before .before .before .before .before .before .before .before .args .at in let g = c .before .before .before .before .before .before .before .before .pre .1 in let l = rule-here s at g in omega arith
+
+weight-at-weight-at-requires : (t : ℕ) → weight-at-lts.Need-weight-at-requires (calls t) (weight-at-at t) weight-at.Post
+weight-at-weight-at-requires t c κs = let s = c .before .before .before .before .before .before .before .before .args .rule .now in let at = c .before .before .before .before .before .before .before .before .args .at in let g = c .before .before .before .before .before .before .before .before .pre .1 in let l = rule-here s at g in let q : kindOf (getD s at 0) ≡ OfRule (Again (c .enum-told5 .given .0 .0)) = cc in (omega arith, good-again s at g _ q)
+
+weight-at-enum-known-k-2 : (t : ℕ) → weight-at-lts.Need-enum-known-k-2 (calls t) (weight-at-at t) weight-at.Post
+weight-at-enum-known-k-2 t c = search needs
+
+weight-at-add-weight-at-2 : (t : ℕ) → weight-at-lts.Need-add-weight-at-2 (calls t) (weight-at-at t) weight-at.Post
+weight-at-add-weight-at-2 t c = let s = c .before .before .before .before .before .before .before .before .before .args .rule .now in let at = c .before .before .before .before .before .before .before .before .before .args .at in let g = c .before .before .before .before .before .before .before .before .before .pre .1 in let l = rule-here s at g in omega arith
+
+weight-at-weight-at-requires-2 : (t : ℕ) → weight-at-lts.Need-weight-at-requires-2 (calls t) (weight-at-at t) weight-at.Post
+weight-at-weight-at-requires-2 t c κs = let s = c .before .before .before .before .before .before .before .before .before .args .rule .now in let at = c .before .before .before .before .before .before .before .before .before .args .at in let g = c .before .before .before .before .before .before .before .before .before .pre .1 in let l = rule-here s at g in let q : kindOf (getD s at 0) ≡ OfRule (Two (c .before .k2 .given .0 .0)) = cc in (omega arith, good-first s at g _ q)
+
+weight-at-weight-at-requires-3 : (t : ℕ) → weight-at-lts.Need-weight-at-requires-3 (calls t) (weight-at-at t) weight-at.Post
+weight-at-weight-at-requires-3 t c κs = let s = c .before .before .before .before .before .before .before .before .before .before .args .rule .now in let at = c .before .before .before .before .before .before .before .before .before .before .args .at in let g = c .before .before .before .before .before .before .before .before .before .before .pre .1 in let l = rule-here s at g in let q : kindOf (getD s at 0) ≡ OfRule (Two (c .before .before .k2 .given .0 .0)) = cc in let h = good-second s at g _ q (c .weight-at2 .result .end) (λ a e d. c .weight-at2 .ensures a e d .1) in (omega arith, h .0)
+
+weight-at-weight-of-pair-requires : (t : ℕ) → weight-at-lts.Need-weight-of-pair-requires (calls t) (weight-at-at t) weight-at.Post
+weight-at-weight-of-pair-requires t c κs = let s = c .before .before .before .before .before .before .before .before .before .before .before .args .rule .now in let at = c .before .before .before .before .before .before .before .before .before .before .before .args .at in let g = c .before .before .before .before .before .before .before .before .before .before .before .pre .1 in let l = rule-here s at g in let q : kindOf (getD s at 0) ≡ OfRule (Two (c .before .before .before .k2 .given .0 .0)) = cc in let a = good-first s at g _ q in let b = good-second s at g _ q (c .before .weight-at2 .result .end) (λ a e d. c .before .weight-at2 .ensures a e d .1) in (capped-small _ _ (c .before .weight-at2 .ensures (a .0) (a .1) (a .2) .0), capped-small _ _ (c .weight-at3 .ensures (b .0 .0) (b .0 .1) (b .0 .2) .0))
+
+weight-at-returns : (t : ℕ) → weight-at-lts.Need-returns (calls t) (weight-at-at t) weight-at.Post
+weight-at-returns t c = let s = c .before .before .before .before .before .args .rule .now in let at = c .before .before .before .before .before .args .at in let g = c .before .before .before .before .before .pre .1 in let l = rule-here s at g in let q : kindOf (getD s at 0) ≡ Unknown = cc in absurd (not-unknown s at g q)
+
+weight-at-returns-2 : (t : ℕ) → weight-at-lts.Need-returns-2 (calls t) (weight-at-at t) weight-at.Post
+weight-at-returns-2 t c = let s = c .before .before .before .before .before .args .rule .now in let at = c .before .before .before .before .before .args .at in let g = c .before .before .before .before .before .pre .1 in let l = rule-here s at g in let q : kindOf (getD s at 0) ≡ OfFormula (c .enum-told2 .given .0 .0) = cc in absurd (not-formula s at g _ q)
+
+weight-at-returns-3 : (t : ℕ) → weight-at-lts.Need-returns-3 (calls t) (weight-at-at t) weight-at.Post
+weight-at-returns-3 t c = let s = c .before .before .before .before .before .before .before .before .before .args .rule .now in let at = c .before .before .before .before .before .before .before .before .before .args .at in let g = c .before .before .before .before .before .before .before .before .before .pre .1 in let l = rule-here s at g in let q : kindOf (getD s at 0) ≡ OfRule Letter = cc in w-letter s at q (c .formula-past .result) (c .formula-past .ensures)
+
+weight-at-returns-4 : (t : ℕ) → weight-at-lts.Need-returns-4 (calls t) (weight-at-at t) weight-at.Post
+weight-at-returns-4 t c = let s = c .before .before .before .before .before .before .before .before .args .rule .now in let at = c .before .before .before .before .before .before .before .before .args .at in let g = c .before .before .before .before .before .before .before .before .pre .1 in let l = rule-here s at g in let q : kindOf (getD s at 0) ≡ OfRule Empty = cc in w-empty s at q
+
+weight-at-returns-5 : (t : ℕ) → weight-at-lts.Need-returns-5 (calls t) (weight-at-at t) weight-at.Post
+weight-at-returns-5 t c = let s = c .before .before .before .before .before .before .before .before .before .args .rule .now in let at = c .before .before .before .before .before .before .before .before .before .args .at in let g = c .before .before .before .before .before .before .before .before .before .pre .1 in let l = rule-here s at g in let q : kindOf (getD s at 0) ≡ OfRule (Again (c .before .enum-told5 .given .0 .0)) = cc in w-again s at _ q (c .weight-at .result) (c .weight-at .ensures)
+
+weight-at-returns-6 : (t : ℕ) → weight-at-lts.Need-returns-6 (calls t) (weight-at-at t) weight-at.Post
+weight-at-returns-6 t c = let s = c .before .before .before .before .before .before .before .before .before .before .before .before .args .rule .now in let at = c .before .before .before .before .before .before .before .before .before .before .before .before .args .at in let g = c .before .before .before .before .before .before .before .before .before .before .before .before .pre .1 in let l = rule-here s at g in let q : kindOf (getD s at 0) ≡ OfRule (Two (c .before .before .before .before .k2 .given .0 .0)) = cc in w-two s at _ q (c .before .before .weight-at2 .result) (c .before .weight-at3 .result) (c .before .before .weight-at2 .ensures) (c .before .weight-at3 .ensures) (c .weight-of-pair .result) (c .weight-of-pair .ensures)
+
+pub +weight-at-spec : {M : Type 1} → statement M
++weight-at-spec = close μ-weight-at λ t. weight-at-lts.spec (calls t)
+    (weight-at-at t)
+    weight-at.Post
+    (weight-at-shared-slice-read-kind-of t)
+    (weight-at-kind-of-requires t)
+    (weight-at-enum-told t)
+    (weight-at-enum-told-2 t)
+    (weight-at-enum-known-k t)
+    (weight-at-enum-told-3 t)
+    (weight-at-add-formula-past t)
+    (weight-at-formula-past-requires t)
+    (weight-at-enum-told-4 t)
+    (weight-at-add-t15 t)
+    (weight-at-enum-told-5 t)
+    (weight-at-add-weight-at t)
+    (weight-at-weight-at-requires t)
+    (weight-at-enum-known-k-2 t)
+    (weight-at-add-weight-at-2 t)
+    (weight-at-weight-at-requires-2 t)
+    (weight-at-weight-at-requires-3 t)
+    (weight-at-weight-of-pair-requires t)
+    (weight-at-returns t)
+    (weight-at-returns-2 t)
+    (weight-at-returns-3 t)
+    (weight-at-returns-4 t)
+    (weight-at-returns-5 t)
+    (weight-at-returns-6 t)

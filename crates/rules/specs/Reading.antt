@@ -1,0 +1,74 @@
+-- How 01 reads a rule: one pass over the bytes with a list of what is still needed. The first fault in reading order is the answer.
+-- Assumes nothing: these are definitions.
+use Prim.Native.Nat.{ℕ, _+_}
+use mathlib.Core.List.{List, [], _∷_}
+use lib.Dec.{leb}
+use Rattle.rules.specs.declared.kinds.FormulaKind.{FormulaKind}
+use Rattle.rules.specs.declared.kinds.FormulaKind.the-variants.{Proposition, Truth, Falsity, Not, Join}
+use Rattle.rules.specs.declared.kinds.RuleKind.{RuleKind}
+use Rattle.rules.specs.declared.kinds.RuleKind.the-variants.{Letter, Empty, Two, Again}
+use Rattle.rules.specs.declared.kinds.Kind.{Kind}
+use Rattle.rules.specs.declared.kinds.Kind.the-variants.{OfFormula, OfRule, Unknown}
+use Rattle.rules.specs.Definition2.{lastProposition}
+use Rattle.rules.specs.Definition1.{Formula, prop, yea, nay, neg, join, Rule, letter, empty, two, again}
+use Rattle.rules.specs.Kinds.{kindOf, pick}
+
+-- what reading comes to: a rule, or a refusal's number and place
+pub data Outcome : Type 0 where
+  good : Rule → Outcome
+  fault : ℕ → ℕ → Outcome
+
+-- what is needed next: a rule, a formula, or a proposition's body byte
+pub data Need : Type 0 where
+  rule formula body : Need
+
+abbrev pub Value : Need → Type 0
+Value rule = Rule
+Value formula = Formula
+Value body = ℕ
+
+-- what makes the rule of the values that are still needed, in order
+abbrev pub Rest : List Need → Type 0
+Rest [] = Rule
+Rest (n ∷ ns) = Value n → Rest ns
+
+-- reading on, with these needs, at this place
+abbrev pub On : Type 0
+On = (ns : List Need) → Rest ns → ℕ → Outcome
+
+-- a rule is needed, and the byte at `at` has this kind: its operands are needed next
+abbrev pub ruleKind : RuleKind → On → (ns : List Need) → (Rule → Rest ns) → ℕ → Outcome
+ruleKind Letter on ns k at = on (formula ∷ ns) (λ f. k (letter f)) (at + 1)
+ruleKind Empty on ns k at = on ns (k empty) (at + 1)
+ruleKind (Two p) on ns k at = on (rule ∷ rule ∷ ns) (λ a b. k (two p a b)) (at + 1)
+ruleKind (Again p) on ns k at = on (rule ∷ ns) (λ a. k (again p a)) (at + 1)
+
+abbrev pub formulaKind : FormulaKind → On → (ns : List Need) → (Formula → Rest ns) → ℕ → Outcome
+formulaKind Proposition on ns k at = on (body ∷ ns) (λ i. k (prop i)) (at + 1)
+formulaKind Truth on ns k at = on ns (k yea) (at + 1)
+formulaKind Falsity on ns k at = on ns (k nay) (at + 1)
+formulaKind Not on ns k at = on (formula ∷ ns) (λ f. k (neg f)) (at + 1)
+formulaKind (Join j) on ns k at = on (formula ∷ formula ∷ ns) (λ f g. k (join j f g)) (at + 1)
+
+abbrev pub takeRule : Kind → On → (ns : List Need) → (Rule → Rest ns) → ℕ → Outcome
+takeRule (OfRule r) on ns k at = ruleKind r on ns k at
+takeRule (OfFormula f) on ns k at = fault 4 at
+takeRule Unknown on ns k at = fault 3 at
+
+abbrev pub takeFormula : Kind → On → (ns : List Need) → (Formula → Rest ns) → ℕ → Outcome
+takeFormula (OfRule r) on ns k at = fault 4 at
+takeFormula (OfFormula f) on ns k at = formulaKind f on ns k at
+takeFormula Unknown on ns k at = fault 3 at
+
+-- the byte b at `at`, where n is needed
+abbrev pub takeByte : (n : Need) → ℕ → On → (ns : List Need) → (Value n → Rest ns) → ℕ → Outcome
+takeByte rule b on ns k at = takeRule (kindOf b) on ns k at
+takeByte formula b on ns k at = takeFormula (kindOf b) on ns k at
+takeByte body b on ns k at = pick (leb b lastProposition) (on ns (k b) (at + 1)) (fault 5 at)
+
+-- reading bytes: the needs in order, what is made of them, and the place of the first byte
+abbrev pub scan : List ℕ → On
+scan [] [] k at = good k
+scan [] (n ∷ ns) k at = fault 2 at
+scan (b ∷ bs) [] k at = fault 6 at
+scan (b ∷ bs) (n ∷ ns) k at = takeByte n b (scan bs) ns k at

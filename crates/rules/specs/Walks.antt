@@ -1,0 +1,52 @@
+-- What the walks over a rule's bytes promise of whatever stands at a place. Assumes nothing: these are definitions.
+use Prim.Native.Nat.{ℕ, _+_, _<_, _≤_, min}
+use mathlib.Core.Path.{_≡_}
+use mathlib.Core.List.{List, _∷_}
+use lib.ListN.{length, getD, drop}
+use Rattle.bits.specs.Word.{word}
+use Rattle.rules.specs.declared.Refusal.{Refusal}
+use Rattle.rules.specs.declared.ends.Read.{Read}
+use Rattle.rules.specs.declared.ends.Read.the-variants.{Ends, Refused}
+use Rattle.rules.specs.declared.weights.Weighed.{Weighed}
+use Rattle.rules.specs.declared.formulas.Held.{Held}
+use Rattle.rules.specs.Definition1.{Formula, Rule}
+use Rattle.rules.specs.Definition2.{letterCount, lastProposition, holds}
+use Rattle.rules.specs.Weight.{weightOf, countedTo}
+use Rattle.rules.specs.Refusals.{number, place}
+use Rattle.rules.specs.Reading.{Outcome, fault, Need, rule, formula, body, Value, Rest, scan}
+use Rattle.rules.specs.Places.{FormulaAt, RuleAt}
+
+abbrev pub shown : Refusal → Outcome
+shown x = fault (number x) (place x)
+
+-- reading on from `at` with n needed first meets this refusal, whatever is needed after it
+abbrev pub Fails : List ℕ → ℕ → Need → Refusal → Type 0
+Fails s at n x = (ns : List Need) (k : Value n → Rest ns) → scan (drop at s) (n ∷ ns) k at ≡ shown x
+
+-- reading at `at` comes to the end of what stands there, or to the first fault
+abbrev pub BodyRead : List ℕ → ℕ → Read → Type 0
+BodyRead s at (Ends e) = (at < length s) × (getD s at 0 ≤ lastProposition) × (at + 1 ≡ e)
+BodyRead s at (Refused x) = Fails s at body x
+
+abbrev pub FormulaRead : List ℕ → ℕ → Read → Type 0
+FormulaRead s at (Ends e) = (f : Formula) × FormulaAt s at f e
+FormulaRead s at (Refused x) = Fails s at formula x
+
+abbrev pub RuleRead : List ℕ → ℕ → Read → Type 0
+RuleRead s at (Ends e) = (r : Rule) × RuleAt s at r e
+RuleRead s at (Refused x) = Fails s at rule x
+
+-- the weight, counted up to one above the limit, and the end
+abbrev pub WeighedAs : List ℕ → ℕ → Weighed → Type 0
+WeighedAs s at w = (r : Rule) (e : ℕ) → RuleAt s at r e → (w .weight ≡ min countedTo (weightOf r)) × (w .end ≡ e)
+
+-- whether the formula holds in the letter x, and the end
+abbrev pub HoldsAs : List ℕ → ℕ → ℕ → Held → Type 0
+HoldsAs s at x h = (f : Formula) (e : ℕ) → FormulaAt s at f e → (h .holds ≡ holds f x) × (h .end ≡ e)
+
+-- the formula's label, of the letters below k and of all letters: bit x is set exactly if the formula holds in letter x
+abbrev pub LabelUpTo : List ℕ → ℕ → ℕ → ℕ → Type 0
+LabelUpTo s at k l = (f : Formula) (e : ℕ) → FormulaAt s at f e → l ≡ word k (holds f)
+
+abbrev pub LabelAs : List ℕ → ℕ → ℕ → Type 0
+LabelAs s at l = LabelUpTo s at letterCount l

@@ -1,0 +1,97 @@
+// Reading in prefix order: where the formula or the rule that begins at a place ends, or its first fault.
+ghost use Rattle.rules.specs.Places.{GoodFormula, GoodRule, FormulaEnds, RuleEnds};
+ghost use Rattle.rules.specs.Walks.{BodyRead, FormulaRead, RuleRead};
+use crate::Refusal;
+use crate::kinds::FormulaKind;
+use crate::kinds::Kind;
+use crate::kinds::RuleKind;
+use crate::kinds::kind_of;
+
+const LAST_PROPOSITION: u8 = 5;
+
+// The place after what was read, or its first fault.
+pub enum Read {
+    Ends(usize),
+    Refused(Refusal),
+}
+
+// The body of a proposition: its number.
+fn body_end(rule: &[u8], at: usize) -> Read
+    ensures { λ r. ⌜ BodyRead (now (rule .entry)) at r ⌝ }
+{
+    if rule.len() <= at {
+        return Read::Refused(Refusal::Ended(at));
+    }
+    if rule[at] <= LAST_PROPOSITION {
+        Read::Ends(at + 1)
+    } else {
+        Read::Refused(Refusal::NoProposition(at))
+    }
+}
+
+// Reads a formula at `at`.
+pub fn formula_end(rule: &[u8], at: usize) -> Read
+    ensures { λ r. ⌜ FormulaRead (now (rule .entry)) at r ⌝ }
+{
+    if rule.len() <= at {
+        return Read::Refused(Refusal::Ended(at));
+    }
+    match kind_of(rule[at]) {
+        Kind::Unknown => Read::Refused(Refusal::UnknownKind(at)),
+        Kind::OfRule(_) => Read::Refused(Refusal::WrongSort(at)),
+        Kind::OfFormula(k) => match k {
+            FormulaKind::Proposition => body_end(rule, at + 1),
+            FormulaKind::Truth => Read::Ends(at + 1),
+            FormulaKind::Falsity => Read::Ends(at + 1),
+            FormulaKind::Not => formula_end(rule, at + 1),
+            FormulaKind::Join(_) => match formula_end(rule, at + 1) {
+                Read::Refused(x) => Read::Refused(x),
+                Read::Ends(m) => formula_end(rule, m),
+            },
+        },
+    }
+}
+
+// Reads a rule at `at`.
+pub fn rule_end(rule: &[u8], at: usize) -> Read
+    ensures { λ r. ⌜ RuleRead (now (rule .entry)) at r ⌝ }
+{
+    if rule.len() <= at {
+        return Read::Refused(Refusal::Ended(at));
+    }
+    match kind_of(rule[at]) {
+        Kind::Unknown => Read::Refused(Refusal::UnknownKind(at)),
+        Kind::OfFormula(_) => Read::Refused(Refusal::WrongSort(at)),
+        Kind::OfRule(k) => match k {
+            RuleKind::Letter => formula_end(rule, at + 1),
+            RuleKind::Empty => Read::Ends(at + 1),
+            RuleKind::Again(_) => rule_end(rule, at + 1),
+            RuleKind::Two(_) => match rule_end(rule, at + 1) {
+                Read::Refused(x) => Read::Refused(x),
+                Read::Ends(m) => rule_end(rule, m),
+            },
+        },
+    }
+}
+
+// The place after the formula that stands at `at`.
+pub fn formula_past(rule: &[u8], at: usize) -> usize
+    requires { ⌜ GoodFormula (now rule) at ⌝ }
+    ensures { λ r. ⌜ FormulaEnds (now (rule .entry)) at r ⌝ }
+{
+    let Read::Ends(e) = formula_end(rule, at) else {
+        return 0;
+    };
+    e
+}
+
+// The place after the rule that stands at `at`.
+pub fn rule_past(rule: &[u8], at: usize) -> usize
+    requires { ⌜ GoodRule (now rule) at ⌝ }
+    ensures { λ r. ⌜ RuleEnds (now (rule .entry)) at r ⌝ }
+{
+    let Read::Ends(e) = rule_end(rule, at) else {
+        return 0;
+    };
+    e
+}

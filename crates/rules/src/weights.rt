@@ -1,0 +1,73 @@
+// The weight of a rule that stands in the bytes, counted up to one above the limit: that much is enough to refuse it.
+ghost use mathlib.Core.Path.{_≡_};
+ghost use Prim.Native.Nat.{_≤_, min};
+ghost use Rattle.rules.specs.Places.{GoodRule};
+ghost use Rattle.rules.specs.Weight.{pairWeight, countedTo};
+ghost use Rattle.rules.specs.Walks.{WeighedAs};
+use crate::ends::formula_past;
+use crate::kinds::Kind;
+use crate::kinds::Pair;
+use crate::kinds::RuleKind;
+use crate::kinds::kind_of;
+
+const COUNTED_TO: usize = 65;
+
+// A rule's weight, `COUNTED_TO` for any at or above it, and the place after the rule.
+pub struct Weighed {
+    pub weight: usize,
+    pub end: usize,
+}
+
+fn capped(weight: usize) -> usize
+    ensures { λ r. ⌜ r ≡ min countedTo weight ⌝ }
+{
+    if weight < COUNTED_TO {
+        weight
+    } else {
+        COUNTED_TO
+    }
+}
+
+fn weight_of_pair(p: Pair, m: usize, n: usize) -> usize
+    requires { ⌜ (m ≤ countedTo) × (n ≤ countedTo) ⌝ }
+    ensures { λ r. ⌜ r ≡ min countedTo (pairWeight p m n) ⌝ }
+{
+    match p {
+        Pair::Then => capped(m + n),
+        Pair::Overlap => capped(m + n),
+        Pair::Either => capped(1 + m + n),
+        Pair::Within => capped(2 * (m * n) + 2 * m + 2 * n + 1),
+        Pair::Both => capped(m * n),
+    }
+}
+
+// Weighs the rule that stands at `at`.
+pub fn weight_at(rule: &[u8], at: usize) -> Weighed
+    requires { ⌜ GoodRule (now rule) at ⌝ }
+    ensures { λ r. ⌜ WeighedAs (now (rule .entry)) at r ⌝ }
+{
+    match kind_of(rule[at]) {
+        Kind::Unknown => Weighed { weight: 0, end: at },
+        Kind::OfFormula(_) => Weighed { weight: 0, end: at },
+        Kind::OfRule(k) => match k {
+            RuleKind::Letter => Weighed {
+                weight: 2,
+                end: formula_past(rule, at + 1),
+            },
+            RuleKind::Empty => Weighed {
+                weight: 1,
+                end: at + 1,
+            },
+            RuleKind::Again(_) => weight_at(rule, at + 1),
+            RuleKind::Two(p) => {
+                let a = weight_at(rule, at + 1);
+                let m = a.end;
+                let b = weight_at(rule, m);
+                Weighed {
+                    weight: weight_of_pair(p, a.weight, b.weight),
+                    end: b.end,
+                }
+            }
+        },
+    }
+}
