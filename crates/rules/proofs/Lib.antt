@@ -9,3 +9,4 @@ pub mod Encode
 pub mod Stands
 pub mod Ended
 pub mod Once
+pub mod Accepting

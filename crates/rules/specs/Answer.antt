@@ -1,5 +1,6 @@
 -- What reading a whole rule comes to, for every string of bytes. Assumes nothing: these are definitions.
-use Prim.Native.Nat.{ℕ}
+use Prim.Native.Nat.{ℕ, _≤_}
+use mathlib.Core.Path.{_≡_}
 use mathlib.Core.List.{List, [], _∷_}
 use lib.Dec.{leb, ltb}
 use lib.ListN.{length}
@@ -37,6 +38,12 @@ weighed (fault n p) = refused n p
 -- the length is tested first
 abbrev pub answer : List ℕ → Result
 answer s = pick (ltb longestRule (length s)) (refused 1 0) (weighed (parse s))
+
+-- the bytes are accepted, as the spelling of the rule r
+pub record AcceptedAs (s : List ℕ) (r : Rule) : Type 0 where
+  pub short : length s ≤ longestRule
+  pub spelt : parse s ≡ good r
+  pub light : weightOf r ≤ weightLimit
 
 -- the paper's number and values for each case of the answer
 abbrev pub told : RuleAnswer → Result
