@@ -10,3 +10,6 @@ pub mod Stands
 pub mod Ended
 pub mod Once
 pub mod Accepting
+pub mod Maps
+pub mod Deciding
+pub mod Held

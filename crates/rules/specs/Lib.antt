@@ -8,3 +8,4 @@ pub mod Places
 pub mod Encoding
 pub mod Walks
 pub mod Answer
+pub mod Sequences
