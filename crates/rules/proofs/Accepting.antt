@@ -56,6 +56,7 @@ module _ (s : List ℕ) where
 
   -- the spellings of rules within the limits, and no others
   pub accepted-spelling : (r : Rule) → AcceptedAs s r ↔ ((spell r ≡ s) × Small r × (length s ≤ longestRule) × (weightOf r ≤ weightLimit))
-  accepted-spelling r =
-      (λ a. let i = read-is-spelt s r (a .spelt) in (i .0, i .1, a .short, a .light),
-      λ h. record { short = h .2; spelt = subst (λ (t : List ℕ). parse t ≡ good r) (h .0) (spelt-is-read r (h .1)); light = h .3 })
+  accepted-spelling r = (
+    λ a. let i = read-is-spelt s r (a .spelt) in (i .0, i .1, a .short, a .light),
+    λ h. record { short = h .2; spelt = subst (λ (t : List ℕ). parse t ≡ good r) (h .0) (spelt-is-read r (h .1)); light = h .3 },
+  )

@@ -86,8 +86,8 @@ repeats-out P zero [] t = none
 repeats-out P zero (x ∷ w) t = absurd t
 repeats-out P (suc k) [] t = none
 repeats-out P (suc k) (x ∷ w) t =
-  let h = parts-out (λ u. P (x ∷ u)) (repeatsB P k) w t in
-  more (x ∷ h .w1) (h .w2) (ap (λ t. x ∷ t) (h .whole)) cons≢nil (h .first) (repeats-out P k (h .w2) (h .second))
+    let h = parts-out (λ u. P (x ∷ u)) (repeatsB P k) w t in
+    more (x ∷ h .w1) (h .w2) (ap (λ t. x ∷ t) (h .whole)) cons≢nil (h .first) (repeats-out P k (h .w2) (h .second))
 
 repeats-in : (P : List ℕ → Bool) (k : ℕ) (w : List ℕ) → length w ≤ k → Repeats (Ts P) w → T (repeatsB P k w)
 repeats-in P zero w l none = tt
@@ -121,13 +121,13 @@ verdict-sat (two Then a b) w t = map-parts (Ts (verdict a)) (Sat a) (Ts (verdict
 verdict-sat (two Overlap a b) w t = map-overlaps (Ts (verdict a)) (Sat a) (Ts (verdict b)) (Sat b) (verdict-sat a) (verdict-sat b) w (overlaps-out (verdict a) (verdict b) w t)
 verdict-sat (two Either a b) w t = ⊎-map (verdict-sat a w) (verdict-sat b w) (or-T (verdict a w) (verdict b w) .0 t)
 verdict-sat (two Within a b) w t = ⊎-map
-  (λ s. let h = and-T (verdict a w) (partsB (verdict b) (λ u. true) w) .0 s in (verdict-sat a w (h .0), map-begins (Ts (verdict b)) (Sat b) (verdict-sat b) w (begins-out (verdict b) w (h .1))))
-  (λ s. let h = and-T (verdict b w) (partsB (verdict a) (λ u. true) w) .0 s in (verdict-sat b w (h .0), map-begins (Ts (verdict a)) (Sat a) (verdict-sat a) w (begins-out (verdict a) w (h .1))))
-  (or-T (verdict a w && partsB (verdict b) (λ u. true) w) (verdict b w && partsB (verdict a) (λ u. true) w) .0 t)
+    (λ s. let h = and-T (verdict a w) (partsB (verdict b) (λ u. true) w) .0 s in (verdict-sat a w (h .0), map-begins (Ts (verdict b)) (Sat b) (verdict-sat b) w (begins-out (verdict b) w (h .1))))
+    (λ s. let h = and-T (verdict b w) (partsB (verdict a) (λ u. true) w) .0 s in (verdict-sat b w (h .0), map-begins (Ts (verdict a)) (Sat a) (verdict-sat a) w (begins-out (verdict a) w (h .1))))
+    (or-T (verdict a w && partsB (verdict b) (λ u. true) w) (verdict b w && partsB (verdict a) (λ u. true) w) .0 t)
 verdict-sat (two Both a b) w t = let h = and-T (verdict a w) (verdict b w) .0 t in (verdict-sat a w (h .0), verdict-sat b w (h .1))
 verdict-sat (again Star a) w t = map-repeats (Ts (verdict a)) (Sat a) (verdict-sat a) w (repeats-out (verdict a) (length w) w t)
 verdict-sat (again Plus a) w t =
-  map-parts (Ts (verdict a)) (Sat a) (λ u. T (repeatsB (verdict a) (length u) u)) (Repeats (Sat a)) (verdict-sat a) (λ u s. map-repeats (Ts (verdict a)) (Sat a) (verdict-sat a) u (repeats-out (verdict a) (length u) u s)) w
+    map-parts (Ts (verdict a)) (Sat a) (λ u. T (repeatsB (verdict a) (length u) u)) (Repeats (Sat a)) (verdict-sat a) (λ u s. map-repeats (Ts (verdict a)) (Sat a) (verdict-sat a) u (repeats-out (verdict a) (length u) u s)) w
     (parts-out (verdict a) (λ u. repeatsB (verdict a) (length u) u) w t)
 
 pub sat-verdict : (r : Rule) (w : List ℕ) → Sat r w → T (verdict r w)
@@ -138,9 +138,9 @@ sat-verdict (two Then a b) w h = rw (h .whole) (parts-in (verdict a) (verdict b)
 sat-verdict (two Overlap a b) w h = rw (h .whole) (overlaps-in (verdict a) (verdict b) (h .w1) (h .x) (h .w2) (sat-verdict a (h .w1 ++ (h .x ∷ [])) (h .first)) (sat-verdict b (h .x ∷ h .w2) (h .second)))
 sat-verdict (two Either a b) w h = or-T (verdict a w) (verdict b w) .1 (⊎-map (sat-verdict a w) (sat-verdict b w) h)
 sat-verdict (two Within a b) w h = or-T (verdict a w && partsB (verdict b) (λ u. true) w) (verdict b w && partsB (verdict a) (λ u. true) w) .1 (⊎-map
-  (λ s. and-T (verdict a w) (partsB (verdict b) (λ u. true) w) .1 (sat-verdict a w (s .0), begins-in (verdict b) w (map-begins (Sat b) (Ts (verdict b)) (sat-verdict b) w (s .1))))
-  (λ s. and-T (verdict b w) (partsB (verdict a) (λ u. true) w) .1 (sat-verdict b w (s .0), begins-in (verdict a) w (map-begins (Sat a) (Ts (verdict a)) (sat-verdict a) w (s .1)))) h)
+    (λ s. and-T (verdict a w) (partsB (verdict b) (λ u. true) w) .1 (sat-verdict a w (s .0), begins-in (verdict b) w (map-begins (Sat b) (Ts (verdict b)) (sat-verdict b) w (s .1))))
+    (λ s. and-T (verdict b w) (partsB (verdict a) (λ u. true) w) .1 (sat-verdict b w (s .0), begins-in (verdict a) w (map-begins (Sat a) (Ts (verdict a)) (sat-verdict a) w (s .1)))) h)
 sat-verdict (two Both a b) w h = and-T (verdict a w) (verdict b w) .1 (sat-verdict a w (h .0), sat-verdict b w (h .1))
 sat-verdict (again Star a) w h = repeats-in (verdict a) (length w) w (omega arith) (map-repeats (Sat a) (Ts (verdict a)) (sat-verdict a) w h)
 sat-verdict (again Plus a) w h = rw (h .whole) (parts-in (verdict a) (λ u. repeatsB (verdict a) (length u) u) (h .w1) (h .w2) (sat-verdict a (h .w1) (h .first))
-  (repeats-in (verdict a) (length (h .w2)) (h .w2) (omega arith) (map-repeats (Sat a) (Ts (verdict a)) (sat-verdict a) (h .w2) (h .second))))
+    (repeats-in (verdict a) (length (h .w2)) (h .w2) (omega arith) (map-repeats (Sat a) (Ts (verdict a)) (sat-verdict a) (h .w2) (h .second))))

@@ -1,5 +1,6 @@
 // Reads a rule in the house form: what is known of an accepted rule, or the first refusal with its place.
 ghost use mathlib.Core.Path.{_≡_};
+ghost use Rattle.rules.specs.Refusals.{number, place};
 ghost use Rattle.rules.specs.Answer.{told, answer};
 
 pub mod kinds; // what a kind byte says
@@ -23,6 +24,38 @@ pub enum Refusal {
     NoProposition(usize),
     Leftover(usize),
     TooHeavy,
+}
+
+impl Refusal {
+    // The refusal's number.
+    pub fn number(self) -> u64
+        ensures { λ r. ⌜ r ≡ number self ⌝ }
+    {
+        match self {
+            Refusal::TooLong => 1,
+            Refusal::Ended(_) => 2,
+            Refusal::UnknownKind(_) => 3,
+            Refusal::WrongSort(_) => 4,
+            Refusal::NoProposition(_) => 5,
+            Refusal::Leftover(_) => 6,
+            Refusal::TooHeavy => 7,
+        }
+    }
+
+    // The byte that it is about.
+    pub fn place(self) -> usize
+        ensures { λ r. ⌜ r ≡ place self ⌝ }
+    {
+        match self {
+            Refusal::TooLong => 0,
+            Refusal::Ended(p) => p,
+            Refusal::UnknownKind(p) => p,
+            Refusal::WrongSort(p) => p,
+            Refusal::NoProposition(p) => p,
+            Refusal::Leftover(p) => p,
+            Refusal::TooHeavy => 0,
+        }
+    }
 }
 
 // What is known of an accepted rule.
