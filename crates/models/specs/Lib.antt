@@ -1,1 +1,4 @@
 pub mod Model
+pub mod Reading
+pub mod Stored
+pub mod Answer

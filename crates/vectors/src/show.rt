@@ -1,0 +1,18 @@
+// What came out, as a line.
+use libc::STDOUT_FILENO;
+
+pub fn text(t: &[u8]) {
+    io::write_all(STDOUT_FILENO, t);
+}
+
+pub fn number(n: u64) {
+    io::print_decimal(STDOUT_FILENO, n);
+}
+
+pub fn refused(number_of: u64, place: usize) {
+    text(b"refused ");
+    number(number_of);
+    text(b" at ");
+    number(place as u64);
+    text(b"\n");
+}
