@@ -23,3 +23,8 @@ pub fn put_many(out: &mut [u8], at: usize, part: &[u8], n: usize) -> usize {
     }
     end
 }
+
+// The first n bytes of what was put together.
+pub fn front(space: &[u8], n: usize) -> &[u8] {
+    if n <= space.len() { &space[..n] } else { space }
+}

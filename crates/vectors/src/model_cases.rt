@@ -1,4 +1,5 @@
 // The boundary cases of the model reader.
+use crate::bytes::front;
 use crate::bytes::put;
 use crate::bytes::put_many;
 use crate::show;
@@ -22,22 +23,15 @@ fn read(name: &[u8], model: &[u8]) {
     }
 }
 
-// Reads the first n bytes of what was put together.
-fn read_made(name: &[u8], space: &[u8], n: usize) {
-    if n <= space.len() {
-        read(name, &space[..n]);
-    }
-}
-
 // A state with letter 63 that is initial and has state 0 alone for its successor.
 const RECORD: [u8; 11] = *b"\x20\x3F\x01\x01\x00\x00\x00\x00\x00\x00\x00";
 
 fn counts(space: &mut [u8]) {
     read(b"no bytes", b"");
     let n = put_many(space, 0, &RECORD, 64);
-    read_made(b"64 records", space, n);
+    read(b"64 records", front(space, n));
     let n = put(space, n, b"\x00");
-    read_made(b"705 bytes", space, n);
+    read(b"705 bytes", front(space, n));
 }
 
 fn refusals() {
@@ -56,9 +50,12 @@ fn refusals() {
 fn successors(space: &mut [u8]) {
     let n = put(space, 0, &RECORD);
     let n = put(space, n, b"\x20\x00\x00\x02\x00\x00\x00\x00\x00\x00\x80");
-    read_made(b"successor 63 of 2 states", space, n);
+    read(b"successor 63 of 2 states", front(space, n));
     let n = put(space, n, b"\x20\x00\x02");
-    read_made(b"the same, with flag 2 in the record after it", space, n);
+    read(
+        b"the same, with flag 2 in the record after it",
+        front(space, n),
+    );
 }
 
 pub fn run(space: &mut [u8]) {

@@ -1,4 +1,5 @@
 // The boundary cases of the rule reader.
+use crate::bytes::front;
 use crate::bytes::put;
 use crate::bytes::put_many;
 use crate::show;
@@ -17,13 +18,6 @@ fn read(name: &[u8], rule: &[u8]) {
     }
 }
 
-// Reads the first n bytes of what was put together.
-fn read_made(name: &[u8], space: &[u8], n: usize) {
-    if n <= space.len() {
-        read(name, &space[..n]);
-    }
-}
-
 // n letters joined by `;`, of weight 2n.
 fn joined(space: &mut [u8], at: usize, n: usize) -> usize {
     if n == 0 {
@@ -36,31 +30,31 @@ fn joined(space: &mut [u8], at: usize, n: usize) -> usize {
 fn lengths(space: &mut [u8]) {
     read(b"no bytes", b"");
     let n = put_many(space, 0, b"\x11", 256);
-    read_made(b"256 bytes", space, n);
+    read(b"256 bytes", front(space, n));
 }
 
 fn weights(space: &mut [u8]) {
     let n = joined(space, 0, 32);
-    read_made(b"32 letters joined by ;", space, n);
+    read(b"32 letters joined by ;", front(space, n));
     let n = put(space, 0, b"\x14");
     let n = joined(space, n, 16);
     let n = joined(space, n, 16);
-    read_made(b"weights 32 and 32 joined by |", space, n);
+    read(b"weights 32 and 32 joined by |", front(space, n));
 }
 
 // A weight of 2^64 does not wrap.
 fn largest_weight(space: &mut [u8]) {
     let n = put_many(space, 0, b"\x16", 63);
     let n = put_many(space, n, b"\x10\x02", 64);
-    read_made(b"64 letters joined by &&", space, n);
+    read(b"64 letters joined by &&", front(space, n));
 }
 
 fn nesting(space: &mut [u8]) {
     let n = put_many(space, 0, b"\x17", 254);
     let n = put(space, n, b"\x11");
-    read_made(b"254 nested [*]", space, n);
+    read(b"254 nested [*]", front(space, n));
     let n = put_many(space, 0, b"\x17", 255);
-    read_made(b"255 nested [*] and no more", space, n);
+    read(b"255 nested [*] and no more", front(space, n));
 }
 
 fn refusals() {
@@ -79,9 +73,9 @@ fn refusals() {
 fn heavy(space: &mut [u8]) {
     let n = put(space, 0, b"\x14\x11");
     let n = joined(space, n, 32);
-    read_made(b"too heavy", space, n);
+    read(b"too heavy", front(space, n));
     let n = put(space, n, b"\x11");
-    read_made(b"too heavy, with bytes after it", space, n);
+    read(b"too heavy, with bytes after it", front(space, n));
 }
 
 pub fn run(space: &mut [u8]) {

@@ -1,0 +1,37 @@
+-- From what each step of `judge` finds to the right verdict. Assumes nothing.
+use Prim.Native.Nat.{ℕ, _<_}
+use mathlib.Core.Path.{_≡_, sym, ap, _∙_}
+use mathlib.Core.Bool.{Bool}
+use mathlib.Core.List.{List}
+use lib.ListN.{length}
+use Rattle.rules.specs.declared.Known.{Known}
+use Rattle.rules.specs.declared.Refusal.{Refusal}
+use Rattle.rules.specs.declared.RuleAnswer.{RuleAnswer}
+use Rattle.rules.specs.declared.RuleAnswer.the-variants.{Accepted, Refused}
+use Rattle.rules.specs.Definition1.{Rule}
+use Rattle.rules.specs.Refusals.{number, place}
+use Rattle.rules.specs.Answer as rules
+use Rattle.rules.specs.Answer.{answer, AcceptedAs, knownOf}
+use Rattle.rules.proofs.Accepting.{accepted-rule, accepted-stands}
+use Rattle.judge.specs.Parts.{letterLimit, Few}
+use Rattle.judge.specs.Judging.{AcceptsAs}
+use Rattle.judge.specs.Verdict.{judged, refused, LettersTo, StrayAt, Right, rule-refused, too-many, no-letter, decided}
+
+module _ (s w : List ℕ) (a : RuleAnswer) (read : rules.told a ≡ answer s) where
+  -- the reader's refusal
+  pub right-refusal : (x : Refusal) → a ≡ Refused x → Right s w (refused (number x) (place x))
+  right-refusal x q = rule-refused (sym read ∙ ap rules.told q)
+
+  module _ (k : Known) (q : a ≡ Accepted k) where
+    -- the rule that the reader accepted
+    pub read-as : (r : Rule) × AcceptedAs s r × (k ≡ knownOf r)
+    read-as = accepted-rule s k (sym read ∙ ap rules.told q)
+
+    pub right-many : letterLimit < length w → Right s w (refused 23 0)
+    right-many l = too-many (read-as .1) l
+
+    pub right-stray : Few w → (i : ℕ) → StrayAt w i → Right s w (refused 22 i)
+    right-stray few i h = no-letter (read-as .1) few h
+
+    pub right-judged : Few w → LettersTo w (length w) → (b : Bool) → AcceptsAs s w b → Right s w (judged b k)
+    right-judged few h b d = rw (read-as .2) (decided (read-as .1) few h (d (read-as .0) (length s) (accepted-stands s (read-as .0) (read-as .1))))

@@ -1,0 +1,7 @@
+pub mod Sayings
+pub mod Tries
+pub mod Rows
+pub mod Meaning
+pub mod Operands
+pub mod Answering
+pub mod Once

@@ -1,0 +1,100 @@
+-- No second answer fits the promise of `judge`: there is one right verdict, and `told` loses nothing. Assumes nothing.
+use Prim.Native.Nat.{ℕ, _<_}
+use native.Mathlib.Omega.{arith}
+use native.Mathlib.Decide.{decLt}
+use mathlib.Core.Path.{_≡_, refl, sym, ap, subst⁻¹, _∙_}
+use mathlib.Core.Bool.{Bool}
+use mathlib.Core.List.{List}
+use lib.Dec.{eqb}
+use lib.ListN.{length}
+use Rattle.bits.specs.Says.{Says}
+use Rattle.rules.specs.declared.Refusal.{Refusal}
+use Rattle.rules.specs.declared.Refusal.the-variants.{TooLong, Ended, UnknownKind, WrongSort, NoProposition, Leftover, TooHeavy}
+use Rattle.rules.specs.Definition1.{Rule}
+use Rattle.rules.specs.Definition2.{Sat}
+use Rattle.rules.specs.Kinds.{pick}
+use Rattle.rules.specs.Refusals.{number, place}
+use Rattle.rules.specs.Answer as rules
+use Rattle.rules.specs.Answer.{answer, AcceptedAs, knownOf}
+use Rattle.rules.proofs.Accepting.{accepted-answer, accepted-once}
+use Rattle.judge.specs.declared.JudgeAnswer.{JudgeAnswer}
+use Rattle.judge.specs.declared.JudgeAnswer.the-variants.{Judged, RuleRefused, TooManyLetters, NoLetter}
+use Rattle.judge.specs.Verdict.{Verdict, judged, refused, told, LettersTo, StrayAt, Right, rule-refused, too-many, no-letter, decided}
+use Rattle.judge.proofs.Sayings.{says-once}
+
+-- a first stray byte is one, and leaves no room for letters only
+stray-once : (w : List ℕ) (i j : ℕ) → StrayAt w i → StrayAt w j → i ≡ j
+stray-once w i j h k = go (decLt i j) (decLt j i)
+  where
+    go : Dec (i < j) → Dec (j < i) → i ≡ j
+    go (yes l) d = absurd (omega (arith, h .stray, k .first .below i l))
+    go (no n) (yes l) = absurd (omega (arith, k .stray, h .first .below j l))
+    go (no n) (no m) = omega arith
+
+no-stray : (w : List ℕ) (i : ℕ) → StrayAt w i → LettersTo w (length w) → ⊥
+no-stray w i h l = omega (arith, h .stray, l .below i (h .inside))
+
+module _ (s w : List ℕ) where
+  not-both : (n p : ℕ) (r : Rule) → answer s ≡ rules.refused n p → AcceptedAs s r → ⊥
+  not-both n p r q a =
+      let e : answer s ≡ rules.accepted (knownOf r) = accepted-answer s r a in
+      let z : _≡_ {A = ℕ} 0 1 = cc in
+      omega arith
+
+  same-answer : (r r′ : Rule) → AcceptedAs s r → AcceptedAs s r′ → (b b′ : Bool) → Says b (Sat r w) → Says b′ (Sat r′ w) → judged b (knownOf r) ≡ judged b′ (knownOf r′)
+  same-answer r r′ a a′ b b′ h h′ =
+      let q : r ≡ r′ = accepted-once s r r′ a a′ in
+      let e : b ≡ b′ = says-once h (subst⁻¹ (λ (x : Rule). Says b′ (Sat x w)) q h′) in
+      let k : knownOf r ≡ knownOf r′ = ap knownOf q in
+      cc
+
+  one-verdict : {v : Verdict} → Right s w v → {v′ : Verdict} → Right s w v′ → v ≡ v′
+  one-verdict (rule-refused q) (rule-refused q′) = cc
+  one-verdict (rule-refused q) (too-many a l) = absurd (not-both _ _ _ q a)
+  one-verdict (rule-refused q) (no-letter a f h) = absurd (not-both _ _ _ q a)
+  one-verdict (rule-refused q) (decided a f h d) = absurd (not-both _ _ _ q a)
+  one-verdict (too-many a l) (rule-refused q) = absurd (not-both _ _ _ q a)
+  one-verdict (too-many a l) (too-many a′ l′) = refl
+  one-verdict (too-many a l) (no-letter a′ f h) = absurd (omega (arith, f .few))
+  one-verdict (too-many a l) (decided a′ f h d) = absurd (omega (arith, f .few))
+  one-verdict (no-letter a f h) (rule-refused q) = absurd (not-both _ _ _ q a)
+  one-verdict (no-letter a f h) (too-many a′ l) = absurd (omega (arith, f .few))
+  one-verdict (no-letter a f h) (no-letter a′ f′ h′) = ap (refused 22) (stray-once w _ _ h h′)
+  one-verdict (no-letter a f h) (decided a′ f′ h′ d) = absurd (no-stray w _ h h′)
+  one-verdict (decided a f h d) (rule-refused q) = absurd (not-both _ _ _ q a)
+  one-verdict (decided a f h d) (too-many a′ l) = absurd (omega (arith, f .few))
+  one-verdict (decided a f h d) (no-letter a′ f′ h′) = absurd (no-stray w _ h′ h)
+  one-verdict (decided a f h d) (decided a′ f′ h′ d′) = same-answer _ _ a a′ _ _ d d′
+
+-- the answer that a verdict tells of: `told` loses nothing
+abbrev refusalOf : ℕ → ℕ → JudgeAnswer
+refusalOf n p =
+    pick (eqb n 1) (RuleRefused TooLong)
+    (pick (eqb n 2) (RuleRefused (Ended p))
+    (pick (eqb n 3) (RuleRefused (UnknownKind p))
+    (pick (eqb n 4) (RuleRefused (WrongSort p))
+    (pick (eqb n 5) (RuleRefused (NoProposition p))
+    (pick (eqb n 6) (RuleRefused (Leftover p)) (pick (eqb n 7) (RuleRefused TooHeavy) (pick (eqb n 22) (NoLetter p) TooManyLetters)))))))
+
+abbrev meant : Verdict → JudgeAnswer
+meant (judged b k) = Judged b k
+meant (refused n p) = refusalOf n p
+
+meant-refusal : (x : Refusal) → refusalOf (number x) (place x) ≡ RuleRefused x
+meant-refusal TooLong = refl
+meant-refusal (Ended p) = refl
+meant-refusal (UnknownKind p) = refl
+meant-refusal (WrongSort p) = refl
+meant-refusal (NoProposition p) = refl
+meant-refusal (Leftover p) = refl
+meant-refusal TooHeavy = refl
+
+meant-told : (a : JudgeAnswer) → meant (told a) ≡ a
+meant-told (Judged b k) = refl
+meant-told (RuleRefused x) = meant-refusal x
+meant-told TooManyLetters = refl
+meant-told (NoLetter i) = refl
+
+-- no second answer fits the promise of `judge`
+pub one-answer : (s w : List ℕ) (a b : JudgeAnswer) → Right s w (told a) → Right s w (told b) → a ≡ b
+one-answer s w a b ra rb = sym (meant-told a) ∙ ap meant (one-verdict s w ra rb) ∙ meant-told b

@@ -1,0 +1,55 @@
+-- `cuts::begins_at` meets its contract: where no answer came early, no cut that was tried does. Assumes nothing.
+use mathlib.Core.Path.{_≡_}
+use mathlib.Core.Bool.{true}
+use Prim.Native.Nat.{_+_, _-_, _≤_}
+use native.Mathlib.Omega.{arith}
+use borrow.Author.Needs.{needs}
+use Rattle.judge.proofs.Sayings.{say-yes, say-no}
+use Rattle.judge.proofs.Tries.{Tried, tried-none, tried-one, on, off}
+use Rattle.judge.specs.Parts.{yes}
+use Rattle.judge.proofs.cuts.begins_at.Statement.{statement}
+use Rattle.judge.proofs.cuts.begins_at.Tie as tie
+use Rattle.judge.proofs.cuts.begins_at.Reads as reads
+use Rattle.judge.proofs.cuts.begins_at.Lts as lts
+use Rattle.judge.proofs.cuts.accepted.Reads as accepted-reads
+
+abbrev Inv-loop : tie.InvT-loop
+Inv-loop a i e cut₀ cut = Tried (λ m. yes a i m ≡ true) i cut
+
+abbrev μ-loop : tie.MeasureT-loop
+μ-loop a i e cut₀ cut = e + 1 - cut
+
+loop-holds : tie.Need-loop-holds Inv-loop μ-loop
+loop-holds c = tried-none
+
+accepted-requires : tie.Need-accepted-requires Inv-loop μ-loop
+accepted-requires c κs = search needs
+
+returns : tie.Need-returns Inv-loop μ-loop
+returns c = say-yes (record { cut = c .before .before .before .loop .cut; from = c .before .before .before .loop .inv .from; to = omega arith; first = on (c .before .accepted .ensures) (c .if1 .taken) })
+
+add-cut : tie.Need-add-cut Inv-loop μ-loop
+add-cut c = search needs
+
+loop-less : tie.Need-loop-less Inv-loop μ-loop
+loop-less c = search needs
+
+loop-again : tie.Need-loop-again Inv-loop μ-loop
+loop-again c = tried-one (c .before .before .before .loop .inv) (off (c .before .accepted .ensures) (c .if1 .left))
+
+returns-2 : tie.Need-returns-2 Inv-loop μ-loop
+returns-2 c = say-no (λ t. c .before .loop .inv .none (t .cut) (t .from) (omega (arith, t .to)) (t .first))
+
+pub begins-at-spec : {M : Type 1} → statement M
+begins-at-spec =
+    tie.close
+    (tie.spec
+    Inv-loop
+    μ-loop
+    loop-holds
+    accepted-requires
+    returns
+    add-cut
+    loop-less
+    loop-again
+    returns-2)

@@ -1,0 +1,31 @@
+-- `cuts::cell` meets its contract. Assumes nothing.
+use borrow.Author.Needs.{needs}
+use Rattle.judge.proofs.cuts.cell.Statement.{statement}
+use Rattle.judge.proofs.cuts.cell.Tie as tie
+use Rattle.judge.proofs.cuts.cell.Reads as reads
+use Rattle.judge.proofs.cuts.cell.Lts as lts
+use Rattle.judge.proofs.cuts.pair_at.Reads as pair-at-reads
+use Rattle.judge.proofs.cuts.star_at.Reads as star-at-reads
+
+enum-known-op : tie.Need-enum-known-op
+enum-known-op c = search needs
+
+pair-at-requires : tie.Need-pair-at-requires
+pair-at-requires c κs = search needs
+
+enum-told : tie.Need-enum-told
+enum-told c = search needs
+
+star-at-requires : tie.Need-star-at-requires
+star-at-requires c κs = search needs
+
+returns : tie.Need-returns
+returns c = rw (c .before .before .op .given .1) (c .pair-at .ensures)
+
+returns-2 : tie.Need-returns-2
+returns-2 c = rw (c .before .enum-told .given .1) (c .star-at .ensures)
+
+pub cell-spec : {M : Type 1} → statement M
+cell-spec =
+    tie.close
+    (tie.spec enum-known-op pair-at-requires enum-told star-at-requires returns returns-2)

@@ -1,0 +1,57 @@
+-- `parts::empty_parts` meets its contract: the rows passed have their one bit. Assumes nothing.
+use mathlib.Core.Path.{_≡_, refl, sym}
+use Prim.Native.Nat.{_-_, _≤_}
+use native.Mathlib.Omega.{arith}
+use Rattle.judge.specs.Parts.{side}
+use Rattle.judge.proofs.Rows.{RowsTo, rows-none, rows-one, rows-done, one-bit}
+use borrow.Author.Needs.{needs}
+use Rattle.judge.proofs.parts.empty_parts.Statement.{statement}
+use Rattle.judge.proofs.parts.empty_parts.Tie as tie
+use Rattle.judge.proofs.parts.empty_parts.Reads as reads
+use Rattle.judge.proofs.parts.empty_parts.Lts as lts
+use Rattle.bits.proofs.with.Reads as with-reads
+
+abbrev Inv-loop : tie.InvT-loop
+Inv-loop out₀ i₀ out i = RowsTo _≡_ out i
+
+abbrev μ-loop : tie.MeasureT-loop
+μ-loop out₀ i₀ out i = side - i
+
+loop-holds : tie.Need-loop-holds Inv-loop μ-loop
+loop-holds c = rows-none refl
+
+with-requires : tie.Need-with-requires Inv-loop μ-loop
+with-requires c κs = search needs
+
+mul-out : tie.Need-mul-out Inv-loop μ-loop
+mul-out c = search needs
+
+array-write-out : tie.Need-array-write-out Inv-loop μ-loop
+array-write-out c = search needs
+
+add-i : tie.Need-add-i Inv-loop μ-loop
+add-i c = search needs
+
+loop-less : tie.Need-loop-less Inv-loop μ-loop
+loop-less c = search needs
+
+loop-again : tie.Need-loop-again Inv-loop μ-loop
+loop-again c = rows-one (c .before .before .loop .inv) (omega arith) (one-bit (c .with .ensures) refl (λ e q. sym q))
+
+returns : tie.Need-returns Inv-loop μ-loop
+returns c = rows-done (omega arith) (c .before .loop .inv)
+
+pub empty-parts-spec : {M : Type 1} → statement M
+empty-parts-spec =
+    tie.close
+    (tie.spec
+    Inv-loop
+    μ-loop
+    loop-holds
+    with-requires
+    mul-out
+    array-write-out
+    add-i
+    loop-less
+    loop-again
+    returns)

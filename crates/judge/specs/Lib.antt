@@ -1,0 +1,4 @@
+pub mod Parts
+pub mod Cut
+pub mod Judging
+pub mod Verdict

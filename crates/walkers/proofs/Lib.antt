@@ -1,0 +1,4 @@
+pub mod Sets
+pub mod Walking
+pub mod Answers
+pub mod OneAnswer

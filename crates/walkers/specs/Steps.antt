@@ -1,0 +1,70 @@
+-- What one step of a walker gives. Assumes nothing: these are definitions.
+use Prim.Native.Nat.{ℕ}
+use mathlib.Core.Bool.{Bool, _&&_}
+use mathlib.Core.List.{List}
+use lib.Dec.{ltb}
+use lib.ListN.{length}
+use Rattle.bits.specs.Word.{bit, word, any}
+use Rattle.rules.specs.Definition2.{letterCount}
+use Rattle.rules.specs.Kinds.{pick}
+use Rattle.tables.specs.Table.{cell}
+use Rattle.walkers.specs.declared.Walker.{Walker}
+use Rattle.walkers.specs.declared.Refusal.{Refusal}
+use Rattle.walkers.specs.declared.Refusal.the-variants.{ShortTable, BadLetter}
+use Rattle.walkers.specs.declared.StepAnswer.{StepAnswer}
+use Rattle.walkers.specs.declared.StepAnswer.the-variants.{Moved, Refused}
+use Rattle.walkers.specs.declared.Step.{Step}
+
+-- a lent table has at least this many entries
+abbrev pub tableEntries : ℕ
+tableEntries = 4096
+
+-- the states that p reaches under the letter x
+unfoldable pub rowOf : List ℕ → ℕ → ℕ → ℕ
+rowOf t p x = word 64 (λ q. bit (cell t p q) x)
+
+-- the states that some member of the set reaches under the letter x
+unfoldable pub advanced : List ℕ → ℕ → ℕ → ℕ
+advanced t set x = word 64 (λ q. any 64 (λ p. bit set p && bit (cell t p q) x))
+
+-- whether a final is in the set
+unfoldable pub meets : ℕ → ℕ → Bool
+meets set finals = any 64 (λ q. bit set q && bit finals q)
+
+-- a walker starts at {0}
+abbrev pub startOf : ℕ → Walker
+startOf finals = record { set = 1; finals = finals }
+
+-- an answer in the paper's terms: whether it matches, or a refusal's number and place
+pub data Outcome : Type 0 where
+  flag : Bool → Outcome
+  refusal : ℕ → ℕ → Outcome
+
+abbrev pub refused : Refusal → Outcome
+refused ShortTable = refusal 21 0
+refused (BadLetter i) = refusal 22 i
+
+abbrev pub outcome : StepAnswer → Outcome
+outcome (Moved b) = flag b
+outcome (Refused r) = refused r
+
+-- what a step tells: the walker, and the answer in the paper's terms
+pub record Told : Type 0 where
+  pub walker : Walker
+  pub says : Outcome
+
+abbrev pub told : Step → Told
+told s = record { walker = s .walker; says = outcome (s .answer) }
+
+-- the walker moved by the letter x, and whether a final is in its set
+abbrev pub movedBy : List ℕ → Walker → ℕ → Told
+movedBy t w x = record {
+  walker = record { set = advanced t (w .set) x; finals = w .finals };
+  says = flag (meets (advanced t (w .set) x) (w .finals));
+}
+
+-- one step over whatever table is lent; a refusal gives the walker back as it came
+unfoldable pub stepOf : List ℕ → Walker → ℕ → Told
+stepOf t w x =
+    pick (ltb (length t) tableEntries) (record { walker = w; says = refusal 21 0 })
+    (pick (ltb x letterCount) (movedBy t w x) (record { walker = w; says = refusal 22 0 }))
