@@ -3,5 +3,6 @@ pub mod Tries
 pub mod Rows
 pub mod Meaning
 pub mod Operands
+pub mod Strays
 pub mod Answering
 pub mod Once

@@ -1,12 +1,10 @@
 -- No second answer fits the promise of `judge`: there is one right verdict, and `told` loses nothing. Assumes nothing.
-use Prim.Native.Nat.{ℕ, _<_}
+use Prim.Native.Nat.{ℕ}
 use native.Mathlib.Omega.{arith}
-use native.Mathlib.Decide.{decLt}
 use mathlib.Core.Path.{_≡_, refl, sym, ap, subst⁻¹, _∙_}
 use mathlib.Core.Bool.{Bool}
 use mathlib.Core.List.{List}
 use lib.Dec.{eqb}
-use lib.ListN.{length}
 use Rattle.bits.specs.Says.{Says}
 use Rattle.rules.specs.declared.Refusal.{Refusal}
 use Rattle.rules.specs.declared.Refusal.the-variants.{TooLong, Ended, UnknownKind, WrongSort, NoProposition, Leftover, TooHeavy}
@@ -19,20 +17,9 @@ use Rattle.rules.specs.Answer.{answer, AcceptedAs, knownOf}
 use Rattle.rules.proofs.Accepting.{accepted-answer, accepted-once}
 use Rattle.judge.specs.declared.JudgeAnswer.{JudgeAnswer}
 use Rattle.judge.specs.declared.JudgeAnswer.the-variants.{Judged, RuleRefused, TooManyLetters, NoLetter}
-use Rattle.judge.specs.Verdict.{Verdict, judged, refused, told, LettersTo, StrayAt, Right, rule-refused, too-many, no-letter, decided}
+use Rattle.judge.specs.Verdict.{Verdict, judged, refused, told, Right, rule-refused, too-many, no-letter, decided}
 use Rattle.judge.proofs.Sayings.{says-once}
-
--- a first stray byte is one, and leaves no room for letters only
-stray-once : (w : List ℕ) (i j : ℕ) → StrayAt w i → StrayAt w j → i ≡ j
-stray-once w i j h k = go (decLt i j) (decLt j i)
-  where
-    go : Dec (i < j) → Dec (j < i) → i ≡ j
-    go (yes l) d = absurd (omega (arith, h .stray, k .first .below i l))
-    go (no n) (yes l) = absurd (omega (arith, k .stray, h .first .below j l))
-    go (no n) (no m) = omega arith
-
-no-stray : (w : List ℕ) (i : ℕ) → StrayAt w i → LettersTo w (length w) → ⊥
-no-stray w i h l = omega (arith, h .stray, l .below i (h .inside))
+use Rattle.judge.proofs.Strays.{stray-once, no-stray}
 
 module _ (s w : List ℕ) where
   not-both : (n p : ℕ) (r : Rule) → answer s ≡ rules.refused n p → AcceptedAs s r → ⊥

@@ -1,7 +1,6 @@
 -- What follows from an answer, and for it. Assumes nothing.
 use mathlib.Core.Path.{_≡_, refl, sym, _∙_}
-use mathlib.Core.Bool.{Bool, true, false, _&&_, _||_}
-use mathlib.Core.Logic.{_⊎_, inl, inr}
+use mathlib.Core.Bool.{Bool, true, false}
 use Prim.Native.Nat.{ℕ}
 use native.Mathlib.Omega.{arith}
 use Rattle.bits.specs.Says.{Says}
@@ -52,3 +51,10 @@ says-once {b} {c} {P} s t = go c refl
 -- a test answers whether it is true
 pub says-test : {b t : Bool} → b ≡ t → Says b (t ≡ true)
 says-test {b} {t} e = record { yes-holds = λ q. sym e ∙ q; no-fails = λ q p. clash p (sym e ∙ q) }
+
+-- a test that came out true, and one that came out false
+pub on : {x y : Bool} → x ≡ y → x ≡ true → y ≡ true
+on e q = sym e ∙ q
+
+pub off : {x y : Bool} → x ≡ y → x ≡ false → y ≡ true → ⊥
+off e q p = clash (e ∙ p) q

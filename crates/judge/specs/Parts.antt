@@ -11,7 +11,7 @@ use Rattle.bits.specs.Word.{bit}
 abbrev pub letterLimit : ℕ
 letterLimit = 16
 
--- no more than that
+-- w has no more letters than that
 pub record Few (w : List ℕ) : Type 0 where
   pub few : length w ≤ letterLimit
 

@@ -9,6 +9,7 @@ use Rattle.rules.specs.declared.Known.{Known}
 use Rattle.rules.specs.Definition1.{Rule}
 use Rattle.rules.specs.Definition2.{letterCount, Sat}
 use Rattle.rules.specs.Refusals.{number, place}
+use Rattle.rules.specs.Answer as rules
 use Rattle.rules.specs.Answer.{answer, AcceptedAs, knownOf}
 use Rattle.judge.specs.declared.JudgeAnswer.{JudgeAnswer}
 use Rattle.judge.specs.declared.JudgeAnswer.the-variants.{Judged, RuleRefused, TooManyLetters, NoLetter}
@@ -28,23 +29,24 @@ told (RuleRefused x) = refused (number x) (place x)
 told TooManyLetters = refused 23 0
 told (NoLetter i) = refused 22 i
 
--- what stands below the index n is letters
+-- below the index n stand letters only
 pub record LettersTo (w : List ℕ) (n : ℕ) : Type 0 where
   pub below : (i : ℕ) → i < n → getD w i 0 < letterCount
 
--- the index of the first that is no letter
+-- at the index i stands the first byte that is no letter
 pub record StrayAt (w : List ℕ) (i : ℕ) : Type 0 where
   pub inside : i < length w
   pub stray : letterCount ≤ getD w i 0
   pub first : LettersTo w i
 
+-- letters only, or the first byte that is none
 abbrev pub ScannedAs : List ℕ → Scanned → Type 0
 ScannedAs w AllLetters = LettersTo w (length w)
 ScannedAs w (StraysAt i) = StrayAt w i
 
 -- the right verdict on the rule's bytes s and the letters w: the rule's own refusal, then 23, then 22; else yes exactly if the rule accepts w
 pub data Right (s w : List ℕ) : Verdict → Type 0 where
-  rule-refused : {n p : ℕ} → answer s ≡ Rattle.rules.specs.Answer.refused n p → Right s w (refused n p)
+  rule-refused : {n p : ℕ} → answer s ≡ rules.refused n p → Right s w (refused n p)
   too-many : {r : Rule} → AcceptedAs s r → letterLimit < length w → Right s w (refused 23 0)
   no-letter : {r : Rule} {i : ℕ} → AcceptedAs s r → Few w → StrayAt w i → Right s w (refused 22 i)
   decided : {r : Rule} {b : Bool} → AcceptedAs s r → Few w → LettersTo w (length w) → Says b (Sat r w) → Right s w (judged b (knownOf r))

@@ -1,10 +1,10 @@
 // Definition 2 at one part of the letters, over the answers of the operands: a function for each operator.
-use rules::kinds::Pair;
 ghost use mathlib.Core.Path.{_≡_};
 ghost use Prim.Native.Nat.{ℕ, _<_};
 ghost use Rattle.bits.specs.Says.{Says};
 ghost use Rattle.judge.specs.Parts.{side, yes};
 ghost use Rattle.judge.specs.Cut.{ThenAt, OverlapAt, BeginsAt, WithinAt, PairAt, StarAt, CellAt};
+use rules::kinds::Pair;
 
 // The most letters that the judge takes.
 pub const LETTER_LIMIT: usize = 16;
@@ -64,12 +64,12 @@ fn begins_at(a: &Answers, i: usize, e: usize) -> bool
     requires { ⌜ (i < side) × (e < side) ⌝ }
     ensures { λ r. ⌜ Says r (BeginsAt (now (a .entry)) i e) ⌝ }
 {
-    let mut cut = i;
-    while cut <= e {
-        if accepted(a, i, cut) {
+    let mut end = i;
+    while end <= e {
+        if accepted(a, i, end) {
             return true;
         }
-        cut += 1;
+        end += 1;
     }
     false
 }
@@ -104,12 +104,12 @@ fn star_at(a: &Answers, rest: &Answers, i: usize, e: usize) -> bool
     if i == e {
         return true;
     }
-    let mut cut = i + 1;
-    while cut <= e {
-        if accepted(a, i, cut) && accepted(rest, cut, e) {
+    let mut next = i + 1;
+    while next <= e {
+        if accepted(a, i, next) && accepted(rest, next, e) {
             return true;
         }
-        cut += 1;
+        next += 1;
     }
     false
 }

@@ -1,16 +1,16 @@
 // The answers of a rule for all parts of the letters at once, from its operands' answers.
-use crate::cuts::Answers;
-use crate::cuts::Operator;
-use crate::cuts::SIDE;
-use crate::cuts::cell;
-use rules::formulas::holds_at;
-use rules::kinds::Pair;
 ghost use mathlib.Core.Path.{_≡_};
 ghost use Prim.Native.Nat.{ℕ, _<_};
 ghost use Rattle.rules.specs.Places.{GoodFormula};
 ghost use Rattle.judge.specs.Parts.{side, RowOf, Filled};
 ghost use Rattle.judge.specs.Cut.{CellAt, PairAt, StarAt, PlusOf};
 ghost use Rattle.judge.specs.Judging.{LetterRow, LetterParts};
+use crate::cuts::Answers;
+use crate::cuts::Operator;
+use crate::cuts::SIDE;
+use crate::cuts::cell;
+use rules::formulas::holds_at;
+use rules::kinds::Pair;
 
 // The parts that begin at i.
 fn row(op: Operator, a: &Answers, b: &Answers, i: usize) -> u64

@@ -1,5 +1,5 @@
-// Judging a rule that stands in the bytes. Each operand is judged once, for all parts of the letters.
-ghost use Rattle.bits.specs.Says.{Says};
+// Judging a rule that stands in the bytes. Each operand is judged once, for all parts of the letters: judged anew at each cut, nested repetitions would
+// take exponential time.
 ghost use Rattle.rules.specs.Places.{GoodRule};
 ghost use Rattle.judge.specs.Parts.{Few};
 ghost use Rattle.judge.specs.Judging.{JudgedAt, RepeatedAt, AcceptsAs};

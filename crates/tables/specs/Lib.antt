@@ -1,2 +1,11 @@
 pub mod Table
 pub mod Promise
+pub mod Auto
+pub mod Build
+pub mod IsTable
+pub mod Cells
+pub mod Block
+pub mod Sets
+pub mod Shapes
+pub mod Building
+pub mod Answer

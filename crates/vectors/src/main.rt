@@ -1,14 +1,22 @@
 // Runs the papers' cases and prints what came out, a line for each; the file stdout holds what should come out.
 mod bytes;
 mod draws;
-mod judge_cases;
-mod model_cases;
-mod rule_cases;
 mod show;
+mod rule_cases;
+mod model_cases;
+mod judge_cases;
+mod table_cases;
+mod walk_cases;
+mod agree;
 
 fn main() {
     let mut space = [0u8; 1024];
+    let mut letters = [0u8; 64];
+    let mut table = [0u64; 4096];
     rule_cases::run(&mut space);
     model_cases::run(&mut space);
     judge_cases::run(&mut space);
+    table_cases::run(&mut space, &mut table);
+    walk_cases::run(&mut space, &mut table);
+    agree::run(&mut space, &mut letters, &mut table);
 }

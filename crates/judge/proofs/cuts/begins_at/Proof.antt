@@ -4,8 +4,8 @@ use mathlib.Core.Bool.{true}
 use Prim.Native.Nat.{_+_, _-_, _≤_}
 use native.Mathlib.Omega.{arith}
 use borrow.Author.Needs.{needs}
-use Rattle.judge.proofs.Sayings.{say-yes, say-no}
-use Rattle.judge.proofs.Tries.{Tried, tried-none, tried-one, on, off}
+use Rattle.judge.proofs.Sayings.{say-yes, say-no, on, off}
+use Rattle.judge.proofs.Tries.{Tried, tried-none, tried-one}
 use Rattle.judge.specs.Parts.{yes}
 use Rattle.judge.proofs.cuts.begins_at.Statement.{statement}
 use Rattle.judge.proofs.cuts.begins_at.Tie as tie
@@ -14,10 +14,10 @@ use Rattle.judge.proofs.cuts.begins_at.Lts as lts
 use Rattle.judge.proofs.cuts.accepted.Reads as accepted-reads
 
 abbrev Inv-loop : tie.InvT-loop
-Inv-loop a i e cut₀ cut = Tried (λ m. yes a i m ≡ true) i cut
+Inv-loop a i e end₀ end = Tried (λ m. yes a i m ≡ true) i end
 
 abbrev μ-loop : tie.MeasureT-loop
-μ-loop a i e cut₀ cut = e + 1 - cut
+μ-loop a i e end₀ end = e + 1 - end
 
 loop-holds : tie.Need-loop-holds Inv-loop μ-loop
 loop-holds c = tried-none
@@ -26,10 +26,10 @@ accepted-requires : tie.Need-accepted-requires Inv-loop μ-loop
 accepted-requires c κs = search needs
 
 returns : tie.Need-returns Inv-loop μ-loop
-returns c = say-yes (record { cut = c .before .before .before .loop .cut; from = c .before .before .before .loop .inv .from; to = omega arith; first = on (c .before .accepted .ensures) (c .if1 .taken) })
+returns c = say-yes (record { cut = c .before .before .before .loop .end; from = c .before .before .before .loop .inv .from; to = omega arith; first = on (c .before .accepted .ensures) (c .if1 .taken) })
 
-add-cut : tie.Need-add-cut Inv-loop μ-loop
-add-cut c = search needs
+add-end : tie.Need-add-end Inv-loop μ-loop
+add-end c = search needs
 
 loop-less : tie.Need-loop-less Inv-loop μ-loop
 loop-less c = search needs
@@ -49,7 +49,7 @@ begins-at-spec =
     loop-holds
     accepted-requires
     returns
-    add-cut
+    add-end
     loop-less
     loop-again
     returns-2)

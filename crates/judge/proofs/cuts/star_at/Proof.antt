@@ -3,8 +3,8 @@ use mathlib.Core.Logic.{⊎-elim, inl, inr}
 use Prim.Native.Nat.{_+_, _-_, _≤_}
 use native.Mathlib.Omega.{arith}
 use borrow.Author.Needs.{needs}
-use Rattle.judge.proofs.Sayings.{say-yes, say-no}
-use Rattle.judge.proofs.Tries.{Tried, tried-none, tried-one, Split, on, off}
+use Rattle.judge.proofs.Sayings.{say-yes, say-no, on, off}
+use Rattle.judge.proofs.Tries.{Tried, tried-none, tried-one, Split}
 use Rattle.judge.proofs.cuts.star_at.Statement.{statement}
 use Rattle.judge.proofs.cuts.star_at.Tie as tie
 use Rattle.judge.proofs.cuts.star_at.Reads as reads
@@ -12,16 +12,16 @@ use Rattle.judge.proofs.cuts.star_at.Lts as lts
 use Rattle.judge.proofs.cuts.accepted.Reads as accepted-reads
 
 abbrev Inv-loop : tie.InvT-loop
-Inv-loop a rest i e cut₀ cut = Tried (λ m. Split a rest i e m m) (i + 1) cut
+Inv-loop a rest i e next₀ next = Tried (λ m. Split a rest i e m m) (i + 1) next
 
 abbrev μ-loop : tie.MeasureT-loop
-μ-loop a rest i e cut₀ cut = e + 1 - cut
+μ-loop a rest i e next₀ next = e + 1 - next
 
 returns : tie.Need-returns Inv-loop μ-loop
 returns c = say-yes (inl (c .if1 .taken))
 
-add-cut : tie.Need-add-cut Inv-loop μ-loop
-add-cut c = search needs
+add-next : tie.Need-add-next Inv-loop μ-loop
+add-next c = search needs
 
 loop-holds : tie.Need-loop-holds Inv-loop μ-loop
 loop-holds c = tried-none
@@ -33,10 +33,10 @@ accepted-requires-2 : tie.Need-accepted-requires-2 Inv-loop μ-loop
 accepted-requires-2 c κs = search needs
 
 returns-2 : tie.Need-returns-2 Inv-loop μ-loop
-returns-2 c = say-yes (inr (record { cut = c .before .before .before .before .before .loop .cut; from = omega (arith, c .before .before .before .before .before .loop .inv .from); to = omega arith; first = on (c .before .before .before .accepted .ensures) (c .before .before .if2 .taken); second = on (c .before .accepted2 .ensures) (c .if3 .taken) }))
+returns-2 c = say-yes (inr (record { cut = c .before .before .before .before .before .loop .next; from = omega (arith, c .before .before .before .before .before .loop .inv .from); to = omega arith; first = on (c .before .before .before .accepted .ensures) (c .before .before .if2 .taken); second = on (c .before .accepted2 .ensures) (c .if3 .taken) }))
 
-add-cut-2 : tie.Need-add-cut-2 Inv-loop μ-loop
-add-cut-2 c = search needs
+add-next-2 : tie.Need-add-next-2 Inv-loop μ-loop
+add-next-2 c = search needs
 
 loop-less : tie.Need-loop-less Inv-loop μ-loop
 loop-less c = search needs
@@ -54,12 +54,12 @@ star-at-spec =
     Inv-loop
     μ-loop
     returns
-    add-cut
+    add-next
     loop-holds
     accepted-requires
     accepted-requires-2
     returns-2
-    add-cut-2
+    add-next-2
     loop-less
     loop-again
     returns-3)

@@ -1,7 +1,6 @@
 -- `cuts::within_at` meets its contract. Assumes nothing.
 use borrow.Author.Needs.{needs}
-use Rattle.judge.proofs.Sayings.{said-no, says-map}
-use Rattle.judge.proofs.Tries.{on, off}
+use Rattle.judge.proofs.Sayings.{said-no, says-map, on, off}
 use Rattle.judge.proofs.cuts.within_at.Statement.{statement}
 use Rattle.judge.proofs.cuts.within_at.Tie as tie
 use Rattle.judge.proofs.cuts.within_at.Reads as reads

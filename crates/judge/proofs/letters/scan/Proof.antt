@@ -4,7 +4,7 @@ use native.Mathlib.Omega.{arith}
 use borrow.Author.Needs.{needs}
 use lib.ListN.{length}
 use Rattle.judge.specs.Verdict.{LettersTo}
-use Rattle.judge.proofs.Tries.{letters-none, letters-one, letters-all}
+use Rattle.judge.proofs.Strays.{letters-none, letters-one, letters-all}
 use Rattle.judge.proofs.letters.scan.Statement.{statement}
 use Rattle.judge.proofs.letters.scan.Tie as tie
 use Rattle.judge.proofs.letters.scan.Reads as reads

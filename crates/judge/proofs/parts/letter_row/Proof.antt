@@ -2,8 +2,8 @@
 use mathlib.Core.Path.{refl, sym, _∙_}
 use native.Mathlib.Omega.{arith}
 use borrow.Author.Needs.{needs}
+use Rattle.judge.proofs.Sayings.{on, off}
 use Rattle.judge.proofs.Rows.{no-bit, one-bit}
-use Rattle.judge.proofs.Tries.{on, off}
 use Rattle.judge.proofs.parts.letter_row.Statement.{statement}
 use Rattle.judge.proofs.parts.letter_row.Tie as tie
 use Rattle.judge.proofs.parts.letter_row.Reads as reads

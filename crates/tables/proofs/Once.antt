@@ -1,0 +1,100 @@
+-- No second answer and no second slice fit the promise of `build`; and what it leaves in the slice serves the rule. Assumes nothing.
+use Prim.Native.Nat.{ℕ, _+_, _*_, _/_, _%_, _^_, _<_, _≤_}
+use native.Mathlib.Omega.{arith}
+use native.Mathlib.Decide.{decLt}
+use mathlib.Core.Path.{_≡_, refl, sym, ap, ap₂, subst, _∙_}
+use mathlib.Core.List.{List}
+use lib.Dec.{eqb}
+use lib.ListN.{length, getD}
+use lib.Seq.{ext-getD}
+use Rattle.rules.specs.declared.Known.{Known}
+use Rattle.rules.specs.declared.Refusal.{Refusal}
+use Rattle.rules.specs.declared.Refusal.the-variants.{TooLong, Ended, UnknownKind, WrongSort, NoProposition, Leftover, TooHeavy}
+use Rattle.rules.specs.Definition1.{Rule}
+use Rattle.rules.specs.Kinds.{pick}
+use Rattle.rules.specs.Refusals.{number, place}
+use Rattle.rules.specs.Weight.{weightOf}
+use Rattle.rules.specs.Answer as rules
+use Rattle.rules.specs.Answer.{answer, AcceptedAs, knownOf}
+use Rattle.rules.proofs.Accepting.{accepted-answer, accepted-once}
+use Rattle.tables.specs.declared.TableAnswer.{TableAnswer}
+use Rattle.tables.specs.declared.TableAnswer.the-variants.{Tabled, RuleRefused, ShortTable}
+use Rattle.tables.specs.Table.{cell, tableOf}
+use Rattle.tables.specs.Promise.{Serves}
+use Rattle.tables.specs.IsTable.{IsTable, Words}
+use Rattle.tables.specs.Answer.{Result, tabled, refused, told, SamePast, Right, rule-refused, short-table, the-table}
+use Rattle.tables.proofs.Serving.{one-table, one-finals, serves}
+
+module _ (s t : List ℕ) where
+  not-both : (n p : ℕ) (r : Rule) → answer s ≡ rules.refused n p → AcceptedAs s r → ⊥
+  not-both n p r q a =
+      let e : answer s ≡ rules.accepted (knownOf r) = accepted-answer s r a in
+      let z : _≡_ {A = ℕ} 0 1 = cc in
+      omega arith
+
+  -- two slices with the rule's table in front and t's entries past it
+  module _ (r : Rule) (f g : ℕ) (u v : List ℕ) (i : IsTable r u f) (j : IsTable r v g) (hu : Words u) (hv : Words v) (p : SamePast t u) (q : SamePast t v) where
+    entry : (k : ℕ) → Dec (k < 4096) → getD u k 0 ≡ getD v k 0
+    entry k (yes l) =
+        let z : 64 * (k / 64) + k % 64 ≡ k = omega arith in
+        subst (λ (n : ℕ). getD u n 0 ≡ getD v n 0) z (one-table r u v f g i j hu hv (k / 64) (k % 64) (omega arith) (omega arith))
+    entry k (no n) = p .past k (omega arith) ∙ sym (q .past k (omega arith))
+
+    same-slice : u ≡ v
+    same-slice = ext-getD 0 u v (p .as-long ∙ sym (q .as-long)) (λ k l. entry k (decLt k 4096))
+
+  module _ (u v : List ℕ) (hu : Words u) (hv : Words v) where
+    same-table : (r r′ : Rule) (f g : ℕ) → r ≡ r′ → f < 2 ^ 64 → g < 2 ^ 64 → IsTable r u f → IsTable r′ v g → SamePast t u → SamePast t v
+      → (tabled (knownOf r) f ≡ tabled (knownOf r′) g) × (u ≡ v)
+    same-table r r′ f g e lf lg i j p q =
+        let j′ : IsTable r v g = rw e j in
+        (ap₂ tabled (ap knownOf e) (one-finals r u v f g i j′ lf lg), same-slice r f g u v i j′ hu hv p q)
+
+    one-result : {x y : Result} → Right s t u x → Right s t v y → (x ≡ y) × (u ≡ v)
+    one-result (rule-refused q e) (rule-refused q′ e′) = (cc, e ∙ sym e′)
+    one-result (rule-refused q e) (short-table a l e′) = absurd (not-both _ _ _ q a)
+    one-result (rule-refused q e) (the-table a l lf i p) = absurd (not-both _ _ _ q a)
+    one-result (short-table a l e) (rule-refused q e′) = absurd (not-both _ _ _ q a)
+    one-result (short-table a l e) (short-table a′ l′ e′) = (refl, e ∙ sym e′)
+    one-result (short-table a l e) (the-table a′ l′ lf i p) = absurd (omega arith)
+    one-result (the-table a l lf i p) (rule-refused q e) = absurd (not-both _ _ _ q a)
+    one-result (the-table a l lf i p) (short-table a′ l′ e) = absurd (omega arith)
+    one-result (the-table a l lf i p) (the-table a′ l′ lg j q) = same-table _ _ _ _ (accepted-once s _ _ a a′) lf lg i j p q
+
+-- the answer that a result tells of: `told` loses nothing
+abbrev refusalOf : ℕ → ℕ → TableAnswer
+refusalOf n p =
+    pick (eqb n 1) (RuleRefused TooLong)
+    (pick (eqb n 2) (RuleRefused (Ended p))
+    (pick (eqb n 3) (RuleRefused (UnknownKind p))
+    (pick (eqb n 4) (RuleRefused (WrongSort p))
+    (pick (eqb n 5) (RuleRefused (NoProposition p))
+    (pick (eqb n 6) (RuleRefused (Leftover p)) (pick (eqb n 7) (RuleRefused TooHeavy) ShortTable))))))
+
+abbrev meant : Result → TableAnswer
+meant (tabled k f) = Tabled k f
+meant (refused n p) = refusalOf n p
+
+meant-refusal : (x : Refusal) → refusalOf (number x) (place x) ≡ RuleRefused x
+meant-refusal TooLong = refl
+meant-refusal (Ended p) = refl
+meant-refusal (UnknownKind p) = refl
+meant-refusal (WrongSort p) = refl
+meant-refusal (NoProposition p) = refl
+meant-refusal (Leftover p) = refl
+meant-refusal TooHeavy = refl
+
+meant-told : (a : TableAnswer) → meant (told a) ≡ a
+meant-told (Tabled k f) = refl
+meant-told (RuleRefused x) = meant-refusal x
+meant-told ShortTable = refl
+
+-- no second answer and no second slice fit the promise of `build`
+pub one-answer : (s t u v : List ℕ) (a b : TableAnswer) → Words u → Words v → Right s t u (told a) → Right s t v (told b) → (a ≡ b) × (u ≡ v)
+one-answer s t u v a b hu hv ra rb =
+    let o = one-result s t u v hu hv ra rb in
+    (sym (meant-told a) ∙ ap meant (o .0) ∙ meant-told b, o .1)
+
+-- what an accepted rule leaves in the slice is a table that serves it
+pub right-serves : (s t u : List ℕ) (k : Known) (f : ℕ) → Words u → Right s t u (tabled k f) → (r : Rule) × AcceptedAs s r × (k ≡ knownOf r) × Serves (tableOf u (k .weight) f) r
+right-serves s t u k f hu (the-table {r} a l lf i p) = (r, a, refl, serves r u f i (a .light) hu)

@@ -1,0 +1,86 @@
+-- Where blocks stand, alone and side by side. Assumes nothing.
+use Prim.Native.Nat.{ℕ, _+_, _-_, _<_, _≤_}
+use native.Mathlib.Omega.{arith}
+use mathlib.Core.Path.{_≡_, _∙_}
+use mathlib.Core.Logic.{_⊎_, inl, inr, _↔_}
+use mathlib.Core.List.{List}
+use lib.Dec.{T}
+use Rattle.bits.specs.Word.{bit}
+use Rattle.bits.proofs.Laws.{lt-or-ge}
+use Rattle.rules.specs.Definition1.{Rule, empty, two}
+use Rattle.rules.specs.Weight.{weightOf}
+use Rattle.tables.specs.Table.{cell}
+use Rattle.tables.specs.Build.{auto, UpF}
+use Rattle.tables.specs.Cells.{In, Clean}
+use Rattle.tables.specs.Block.{Block, FinalsAt, Built}
+use Rattle.tables.proofs.Labels.{Has, has-none}
+
+-- a state of two operands is one of the first's, or one of the second's moved up
+pub split : (p m n : ℕ) → p < m + n → (p < m) ⊎ ((i : ℕ) × (p ≡ m + i) × (i < n))
+split p m n l = go (lt-or-ge p m)
+  where
+    go : (p < m) ⊎ (m ≤ p) → (p < m) ⊎ ((i : ℕ) × (p ≡ m + i) × (i < n))
+    go (inl h) = inl h
+    go (inr h) = inr (p - m, omega arith, omega arith)
+
+pub by-cell : {S : Type 0} (v w x : ℕ) → v ≡ w → Has w x ↔ S → Has v x ↔ S
+by-cell v w x e h = rw e h
+
+-- no label, and no step
+pub by-none : {S : Type 0} (v x : ℕ) → v ≡ 0 → (S → ⊥) → Has v x ↔ S
+by-none v x e n = (λ h. absurd (has-none x (rw e at h)), λ s. absurd (n s))
+
+-- an empty label adds nothing
+pub drop-none : {S : Type 0} (v x : ℕ) → v ≡ 0 → (Has v x ⊎ S) ↔ S
+drop-none {S} v x e = (out, inr)
+  where
+    out : Has v x ⊎ S → S
+    out (inl h) = absurd (has-none x (rw e at h))
+    out (inr s) = s
+
+pub block-at : (t : List ℕ) (base : ℕ) (r : Rule) → Block t base r → (P Q p q x : ℕ) → P ≡ base + p → Q ≡ base + q → p < weightOf r → q < weightOf r → x < 64
+    → Has (cell t P Q) x ↔ auto r .step p x q
+block-at t base r b P Q p q x e d hp hq hx = rw (e, d) (b .label p q x hp hq hx)
+
+pub drop-sum : {P : ℕ → Type 0} (k j q : ℕ) → q ≡ k + j → ((i : ℕ) × (q ≡ k + i) × P i) ↔ P j
+drop-sum {P} k j q e = (out, λ s. (j, e, s))
+  where
+    out : (i : ℕ) × (q ≡ k + i) × P i → P j
+    out (i, d, s) = let z : i ≡ j = omega arith in rw z at s
+
+up-out : (F : ℕ → Type 0) (k p q : ℕ) → q ≡ k + p → UpF k F q → F p
+up-out F k p q e (UpF.up j d f) = let z : j ≡ p = omega arith in rw z at f
+
+pub final-at : (f base : ℕ) (r : Rule) → FinalsAt f base r → (P p : ℕ) → P ≡ base + p → P < 64 → T (bit f P) ↔ auto r .final p
+final-at f base r h P p e l = (λ t. up-out (auto r .final) base p P e (h .ends P l .0 t), λ t. h .ends P l .1 (UpF.up p e t))
+
+pub record Beside (t t₂ : List ℕ) (base c : ℕ) (a b : Rule) : Type 0 where
+  pub a-block : Block t₂ c a
+  pub b-block : Block t₂ (c + weightOf a) b
+  pub others : (p q : ℕ) → q < 64 → (In c (c + weightOf a) c (c + weightOf a) p q → ⊥)
+      → (In (c + weightOf a) (c + weightOf a + weightOf b) (c + weightOf a) (c + weightOf a + weightOf b) p q → ⊥) → cell t₂ p q ≡ cell t p q
+  pub blank : (p q : ℕ) → base ≤ p → p < 64 → base ≤ q → q < 64 → (In c (c + weightOf a) c (c + weightOf a) p q → ⊥)
+      → (In (c + weightOf a) (c + weightOf a + weightOf b) (c + weightOf a) (c + weightOf a + weightOf b) p q → ⊥) → cell t₂ p q ≡ 0
+
+module _ (t t₁ t₂ : List ℕ) (base c : ℕ) (a b : Rule) (clean : Clean t base) (room : c + weightOf a + weightOf b ≤ 64)
+    (ba : Built t t₁ c a) (bb : Built t₁ t₂ (c + weightOf a) b) where
+  abbrev m : ℕ
+  m = weightOf a
+
+  abbrev n : ℕ
+  n = weightOf b
+
+  a-stays : (p q x : ℕ) → p < m → q < m → x < 64 → Has (cell t₂ (c + p) (c + q)) x ↔ auto a .step p x q
+  a-stays p q x hp hq hx =
+      by-cell (cell t₂ (c + p) (c + q)) (cell t₁ (c + p) (c + q)) x (bb .others (c + p) (c + q) (omega arith) (λ i. omega arith)) (ba .block .label p q x hp hq hx)
+
+  rest : (p q : ℕ) → q < 64 → (In c (c + m) c (c + m) p q → ⊥) → (In (c + m) (c + m + n) (c + m) (c + m + n) p q → ⊥) → cell t₂ p q ≡ cell t p q
+  rest p q h u v = bb .others p q h v ∙ ba .others p q h u
+
+  pub beside : Beside t t₂ base c a b
+  beside = record {
+    a-block = record { label = a-stays };
+    b-block = bb .block;
+    others = rest;
+    blank = λ p q hp lp hq lq u v. rest p q lq u v ∙ clean .none p q hp lp hq lq;
+  }

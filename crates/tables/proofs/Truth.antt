@@ -1,0 +1,34 @@
+-- Truth values as facts. Assumes nothing.
+use mathlib.Core.Path.{_≡_, refl}
+use mathlib.Core.Logic.{_⊎_, inl, inr, _↔_}
+use mathlib.Core.Bool.{Bool, true, false, _&&_, _||_}
+use lib.Dec.{T}
+
+pub and-T : (a b : Bool) → T (a && b) ↔ (T a × T b)
+and-T true b = (λ t. (tt, t), λ h. h .1)
+and-T false b = (λ t. absurd t, λ h. h .0)
+
+pub or-T : (a b : Bool) → T (a || b) ↔ (T a ⊎ T b)
+or-T true b = (λ t. inl tt, λ h. tt)
+or-T false b = (λ t. inr t, elim [ inl t ↦ absurd t | inr t ↦ t ])
+
+pub true-T : (b : Bool) → b ≡ true → T b
+true-T b e = rw e tt
+
+pub T-true : (b : Bool) → T b → b ≡ true
+T-true true t = refl
+T-true false t = absurd t
+
+pub no-false : (b : Bool) → (T b → ⊥) → b ≡ false
+no-false true n = absurd (n tt)
+no-false false n = refl
+
+pub false-no : (b : Bool) → b ≡ false → T b → ⊥
+false-no b e t = rw e at t
+
+-- two tests that say the same are equal
+pub iff-bool : (a b : Bool) → (T a → T b) → (T b → T a) → a ≡ b
+iff-bool true true f g = refl
+iff-bool true false f g = absurd (f tt)
+iff-bool false true f g = absurd (g tt)
+iff-bool false false f g = refl

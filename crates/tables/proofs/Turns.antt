@@ -1,0 +1,57 @@
+-- `[*]` and `[+]`: a final row gets what leaves the first state. Assumes nothing.
+use Prim.Native.Nat.{ℕ, _+_, _-_, _<_, _≤_}
+use native.Mathlib.Omega.{arith}
+use mathlib.Core.Path.{_≡_, refl, _∙_}
+use mathlib.Core.Logic.{_⊎_, inl, inr, ⊎-map, _↔_}
+use mathlib.Core.List.{List}
+use Rattle.rules.specs.declared.kinds.Repeat.the-variants.{Star, Plus}
+use Rattle.rules.specs.Definition1.{Rule, again}
+use Rattle.rules.specs.Weight.{weightOf}
+use Rattle.tables.specs.Table.{cell}
+use Rattle.tables.specs.Build.{auto, PlusStep}
+use Rattle.tables.specs.Cells.{In, Put, linked}
+use Rattle.tables.specs.Block.{FinalsAt, Built}
+use Rattle.tables.proofs.Labels.{Has, has-linked}
+use Rattle.tables.proofs.Places.{by-cell, block-at, final-at}
+
+plus-split : (a : Rule) (p x q : ℕ) → PlusStep (auto a) p x q ↔ (auto a .step p x q ⊎ (auto a .final p × auto a .step 0 x q))
+plus-split a p x q = (out, back)
+  where
+    out : PlusStep (auto a) p x q → auto a .step p x q ⊎ (auto a .final p × auto a .step 0 x q)
+    out (PlusStep.a's s) = inl s
+    out (PlusStep.anew f s) = inr (f, s)
+
+    back : auto a .step p x q ⊎ (auto a .final p × auto a .step 0 x q) → PlusStep (auto a) p x q
+    back (inl s) = PlusStep.a's s
+    back (inr s) = PlusStep.anew (s .0) (s .1)
+
+module _ (t t₁ t₂ : List ℕ) (base f : ℕ) (a : Rule) (room : base + weightOf a ≤ 64) (ba : Built t t₁ base a) (fa : FinalsAt f base a)
+    (put : Put t₁ t₂ base (base + weightOf a) base (base + weightOf a) (linked t₁ base f)) where
+  plus-label : (p q x : ℕ) → p < weightOf a → q < weightOf a → x < 64 → Has (cell t₂ (base + p) (base + q)) x ↔ PlusStep (auto a) p x q
+  plus-label p q x hp hq hx =
+      let c = has-linked t₁ base f (base + p) (base + q) x in
+      let l = ba .block .label p q x hp hq hx in
+      let k = final-at f base a fa (base + p) p refl (omega arith) in
+      let r = block-at t₁ base a (ba .block) base (base + q) 0 q x (omega arith) refl (omega arith) hq hx in
+      let z = plus-split a p x q in
+      by-cell (cell t₂ (base + p) (base + q)) (linked t₁ base f (base + p) (base + q)) x (put .new (base + p) (base + q) (omega arith))
+      (λ h. z .1 (⊎-map (l .0) (λ s. (k .0 (s .0), r .0 (s .1))) (c .0 h)), λ s. c .1 (⊎-map (l .1) (λ s. (k .1 (s .0), r .1 (s .1))) (z .0 s)))
+
+  plus-others : (p q : ℕ) → q < 64 → (In base (base + weightOf a) base (base + weightOf a) p q → ⊥) → cell t₂ p q ≡ cell t p q
+  plus-others p q h out = put .old p q h out ∙ ba .others p q h out
+
+  plus-block : Built t t₂ base (again Plus a)
+  unfolding auto
+  plus-block = record { block = record { label = plus-label }; others = plus-others }
+
+  star-block : Built t t₂ base (again Star a)
+  unfolding auto
+  star-block = record { block = record { label = plus-label }; others = plus-others }
+
+-- a at base to hi
+module _ (t t₁ t₂ : List ℕ) (base hi f : ℕ) (a : Rule) (e : hi ≡ base + weightOf a) (room : hi ≤ 64) (ba : Built t t₁ base a) (fa : FinalsAt f base a) where
+  pub plus-built : Put t₁ t₂ base hi base hi (linked t₁ base f) → Built t t₂ base (again Plus a)
+  plus-built put = plus-block t t₁ t₂ base f a (omega arith) ba fa (rw e at put)
+
+  pub star-built : Put t₁ t₂ base hi base hi (linked t₁ base f) → Built t t₂ base (again Star a)
+  star-built put = star-block t t₁ t₂ base f a (omega arith) ba fa (rw e at put)

@@ -1,0 +1,42 @@
+use mathlib.Core.Path.{_≡_, refl, sym, _∙_}
+use Prim.Native.Nat.{ℕ, _+_, _-_, _*_, _<_, _≤_}
+use native.Mathlib.Omega.{arith}
+use Rattle.bits.specs.Word.{word}
+use Rattle.bits.proofs.Laws.{word-none}
+use Rattle.tables.specs.Sets.{pairFinal}
+use Rattle.tables.proofs.FinalSets.{both-done}
+use borrow.Author.Needs.{needs}
+use Rattle.tables.proofs.finals.both_finals.Statement.{statement}
+use Rattle.tables.proofs.finals.both_finals.Tie as tie
+use Rattle.tables.proofs.finals.both_finals.Reads as reads
+use Rattle.tables.proofs.finals.both_finals.Lts as lts
+use Rattle.tables.proofs.finals.add_pair.Reads as add-pair-reads
+
+abbrev Inv-loop : tie.InvT-loop
+Inv-loop a b n w set₀ q₀ set q = (q ≤ w) × (set ≡ word q (pairFinal a b n))
+
+abbrev μ-loop : tie.MeasureT-loop
+μ-loop a b n w set₀ q₀ set q = w - q
+
+loop-holds : tie.Need-loop-holds Inv-loop μ-loop
+loop-holds c = (omega arith, word-none _)
+
+add-pair-requires : tie.Need-add-pair-requires Inv-loop μ-loop
+add-pair-requires c κs = search needs
+
+add-q : tie.Need-add-q Inv-loop μ-loop
+add-q c = search needs
+
+loop-less : tie.Need-loop-less Inv-loop μ-loop
+loop-less c = search needs
+
+loop-again : tie.Need-loop-again Inv-loop μ-loop
+loop-again c = (omega arith, c .add-pair .ensures (c .before .before .loop .inv .1))
+
+returns : tie.Need-returns Inv-loop μ-loop
+returns c = λ x y en ew u v. both-done _ _ _ _ _ _ x y en ew (omega arith) (omega arith) u v (c .before .loop .inv .1)
+
+pub both-finals-spec : {M : Type 1} → statement M
+both-finals-spec =
+    tie.close
+    (tie.spec Inv-loop μ-loop loop-holds add-pair-requires add-q loop-less loop-again returns)

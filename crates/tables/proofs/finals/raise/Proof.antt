@@ -1,0 +1,15 @@
+use Rattle.tables.proofs.FinalSets.{shifted}
+use borrow.Author.Needs.{needs}
+use Rattle.tables.proofs.finals.raise.Statement.{statement}
+use Rattle.tables.proofs.finals.raise.Tie as tie
+use Rattle.tables.proofs.finals.raise.Reads as reads
+use Rattle.tables.proofs.finals.raise.Lts as lts
+
+shl-result : tie.Need-shl-result
+shl-result c = search needs
+
+returns : tie.Need-returns
+returns c = shifted (c .args .set) (c .args .k) (c .pre)
+
+pub raise-spec : {M : Type 1} → statement M
+raise-spec = tie.close (tie.spec shl-result returns)

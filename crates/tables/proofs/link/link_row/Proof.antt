@@ -1,0 +1,43 @@
+use mathlib.Core.Path.{_≡_, refl, sym, ap, ap₂, _∙_}
+use Prim.Native.Nat.{ℕ, _+_, _*_, _-_, _<_, _≤_}
+use native.Mathlib.Omega.{arith}
+use lib.ListN.{length}
+use Rattle.bits.specs.Word.{bit}
+use Rattle.tables.specs.Table.{cell}
+use Rattle.tables.specs.Cells.{Put, In, linked}
+use Rattle.tables.proofs.Puts.{put-as, put-keep}
+use Rattle.tables.proofs.Linking.{linked-final, linked-plain}
+use borrow.Author.Needs.{needs}
+use Rattle.tables.proofs.link.link_row.Statement.{statement}
+use Rattle.tables.proofs.link.link_row.Tie as tie
+use Rattle.tables.proofs.link.link_row.Reads as reads
+use Rattle.tables.proofs.link.link_row.Lts as lts
+use Rattle.bits.proofs.has.Reads as has-reads
+use Rattle.tables.proofs.link.unite_row.Reads as unite-row-reads
+
+has-requires : tie.Need-has-requires
+has-requires c κs = search needs
+
+unite-row-requires : tie.Need-unite-row-requires
+unite-row-requires c κs = search needs
+
+same-length : tie.Need-same-length
+same-length c = search needs
+
+returns : tie.Need-returns
+returns c =
+    let o = c .before .before in
+    let h = o .before .before .before in
+    put-as (o .unite-row .ensures) refl refl refl refl
+    (λ p q i. let e : p ≡ h .before .before .args .p = omega arith in
+    sym (linked-final _ _ _ p q (ap (bit _) e ∙ sym (h .has .ensures) ∙ o .before .before .if1 .taken)))
+
+returns-2 : tie.Need-returns-2
+returns-2 c =
+    let h = c .before in
+    put-keep _ _ _ _ _ _
+    (λ p q i. let e : p ≡ h .before .before .args .p = omega arith in
+    sym (linked-plain _ _ _ p q (ap (bit _) e ∙ sym (h .has .ensures) ∙ c .if1 .left)))
+
+pub link-row-spec : {M : Type 1} → statement M
+link-row-spec = tie.close (tie.spec has-requires unite-row-requires same-length returns returns-2)

@@ -1,0 +1,71 @@
+use mathlib.Core.Path.{_≡_, refl, sym, ap, ap₂, _∙_}
+use Prim.Native.Nat.{ℕ, _+_, _*_, _-_, _<_, _≤_}
+use native.Mathlib.Omega.{arith}
+use lib.ListN.{length}
+use Rattle.tables.specs.Table.{cell}
+use Rattle.tables.specs.Cells.{Put, In, paired}
+use Rattle.tables.proofs.Puts.{put-none, put-step, put-as}
+use Rattle.tables.proofs.product.product_row.Statement.{statement}
+use Rattle.tables.proofs.product.product_row.Tie as tie
+use Rattle.tables.proofs.product.product_row.Reads as reads
+use Rattle.tables.proofs.product.product_row.Lts as lts
+use Rattle.tables.proofs.product.pair_label.Reads as pair-label-reads
+use Rattle.tables.proofs.cells.put.Reads as put-reads
+
+abbrev Inv-loop : tie.InvT-loop
+Inv-loop t₀ old base m n w p hi q₀ t q =
+    (base ≤ q) × (q ≤ hi) × (length t ≡ length t₀) × Put t₀ t p (p + 1) base q (paired old base m n)
+
+abbrev μ-loop : tie.MeasureT-loop
+μ-loop t₀ old base m n w p hi q₀ t q = hi - q
+
+add-hi : tie.Need-add-hi Inv-loop μ-loop
+add-hi c = omega arith
+
+loop-holds : tie.Need-loop-holds Inv-loop μ-loop
+loop-holds c = (omega arith, omega arith, refl, put-none _ _ _ _ _ _ (omega arith))
+
+pair-label-requires : tie.Need-pair-label-requires Inv-loop μ-loop
+pair-label-requires c κs = omega arith
+
+put-requires : tie.Need-put-requires Inv-loop μ-loop
+put-requires c κs = omega arith
+
+add-q : tie.Need-add-q Inv-loop μ-loop
+add-q c = omega arith
+
+loop-less : tie.Need-loop-less Inv-loop μ-loop
+loop-less c = omega arith
+
+loop-again : tie.Need-loop-again Inv-loop μ-loop
+loop-again c =
+    let put = c .before .before in
+    let v = put .before .before in
+    let l = v .before .before in (
+      omega arith,
+      omega arith,
+      omega (arith, put .put .kept .0),
+      put-step (omega arith) (omega arith) (l .loop .inv .3) (put .put .ensures) (v .pair-label .ensures),
+    )
+
+same-length : tie.Need-same-length Inv-loop μ-loop
+same-length c = c .before .loop .inv .2
+
+returns : tie.Need-returns Inv-loop μ-loop
+returns c = put-as (c .before .loop .inv .3) refl refl refl (omega arith) (λ p q i. refl)
+
+pub product-row-spec : {M : Type 1} → statement M
+product-row-spec =
+    tie.close
+    (tie.spec
+    Inv-loop
+    μ-loop
+    add-hi
+    loop-holds
+    pair-label-requires
+    put-requires
+    add-q
+    loop-less
+    loop-again
+    same-length
+    returns)

@@ -1,0 +1,249 @@
+-- The proof of the cycle of calls {shape_at}. The measure is what is left of the slice from `at` on. Assumes nothing.
+use borrow.Author.Needs.{needs}
+use Prim.Native.Nat.{ℕ, _+_, _<_, _-_}
+use mathlib.Core.Path.{_≡_}
+use native.Mathlib.Omega.{arith}
+use lib.ListN.{length, getD}
+use Rattle.rules.specs.declared.kinds.RuleKind.the-variants.{Letter, Empty, Two, Again}
+use Rattle.rules.specs.declared.kinds.Kind.the-variants.{OfFormula, OfRule, Unknown}
+use Rattle.rules.specs.Kinds.{kindOf}
+use Rattle.rules.proofs.Walks.{rule-here, not-unknown, not-formula, good-letter}
+use Rattle.tables.proofs.Shaping.{stands-good, fits-again, fits-first, fits-second, pair-weights, shaped-letter, shaped-empty, shaped-again, shaped-two}
+use borrow.Fn.Kinds.{In}
+use borrow.Fn.PlainCycle.{Measures, is, falls, and}
+use Rattle.tables.proofs.shape.shape_at.Reads as shape-at
+use Rattle.tables.proofs.shape.shape_at.Kinds as shape-at-kinds
+use Rattle.tables.proofs.shape.+shape_at.Lts-shape_at as shape-at-lts
+use Rattle.rules.proofs.ends.formula_past.Reads as formula-past-reads
+use Rattle.rules.proofs.kinds.kind_of.Reads as kind-of-reads
+use Rattle.tables.proofs.shape.again_shape.Reads as again-shape-reads
+use Rattle.tables.proofs.shape.pair_shape.Reads as pair-shape-reads
+use Rattle.tables.proofs.shape.+shape_at.{statement}
+use Rattle.tables.proofs.shape.+shape_at.Tie.{close}
+
+abbrev μ-shape-at : Measures 1 shape-at-kinds.ps ℕ
+μ-shape-at κs a = length (a .0 .now) - a .1 .0
+
+abbrev shape-at-at : ℕ → In 1 shape-at-kinds.ps
+shape-at-at t = and 1 shape-at-kinds.ps (is 1 shape-at-kinds.ps μ-shape-at t) shape-at.Pre
+
+abbrev shape-at-below : ℕ → In 1 shape-at-kinds.ps
+shape-at-below t =
+    and 1 shape-at-kinds.ps (falls 1 shape-at-kinds.ps _<_ μ-shape-at t) shape-at.Pre
+
+abbrev shape-at-calls : ℕ → shape-at-lts.Claims
+shape-at-calls t = (kind-of-reads.Asked, kind-of-reads.Learnt, formula-past-reads.Asked, formula-past-reads.Learnt, shape-at-below t, shape-at.Post, again-shape-reads.Asked, again-shape-reads.Learnt, pair-shape-reads.Asked, pair-shape-reads.Learnt)
+
+shape-at-shared-slice-read-kind-of : (t : ℕ) → shape-at-lts.Need-shared-slice-read-kind-of (shape-at-calls t) (shape-at-at t) shape-at.Post
+shape-at-shared-slice-read-kind-of t c =
+    let st = c .before .before in
+    let s = st .args .rule .now in
+    let at = st .args .at in
+    let g = st .pre .1 in
+    let l = rule-here s at (stands-good s at 0 g) in
+    l
+
+shape-at-kind-of-requires : (t : ℕ) → shape-at-lts.Need-kind-of-requires (shape-at-calls t) (shape-at-at t) shape-at.Post
+shape-at-kind-of-requires t c κs = search needs
+
+shape-at-enum-told : (t : ℕ) → shape-at-lts.Need-enum-told (shape-at-calls t) (shape-at-at t) shape-at.Post
+shape-at-enum-told t c = search needs
+
+shape-at-enum-told-2 : (t : ℕ) → shape-at-lts.Need-enum-told-2 (shape-at-calls t) (shape-at-at t) shape-at.Post
+shape-at-enum-told-2 t c = search needs
+
+shape-at-enum-known-k : (t : ℕ) → shape-at-lts.Need-enum-known-k (shape-at-calls t) (shape-at-at t) shape-at.Post
+shape-at-enum-known-k t c = search needs
+
+shape-at-enum-told-3 : (t : ℕ) → shape-at-lts.Need-enum-told-3 (shape-at-calls t) (shape-at-at t) shape-at.Post
+shape-at-enum-told-3 t c = search needs
+
+shape-at-add-formula-past : (t : ℕ) → shape-at-lts.Need-add-formula-past (shape-at-calls t) (shape-at-at t) shape-at.Post
+shape-at-add-formula-past t c =
+    let st = c .before .before .before .before .before .before .before .before in
+    let s = st .args .rule .now in
+    let at = st .args .at in
+    let g = st .pre .1 in
+    let l = rule-here s at (stands-good s at 0 g) in
+    omega arith
+
+shape-at-formula-past-requires : (t : ℕ) → shape-at-lts.Need-formula-past-requires (shape-at-calls t) (shape-at-at t) shape-at.Post
+shape-at-formula-past-requires t c κs =
+    let st = c .before .before .before .before .before .before .before .before in
+    let s = st .args .rule .now in
+    let at = st .args .at in
+    let g = st .pre .1 in
+    let l = rule-here s at (stands-good s at 0 g) in
+    let q : kindOf (getD s at 0) ≡ OfRule Letter = cc in
+    good-letter s at (stands-good s at 0 g) q
+
+shape-at-enum-told-4 : (t : ℕ) → shape-at-lts.Need-enum-told-4 (shape-at-calls t) (shape-at-at t) shape-at.Post
+shape-at-enum-told-4 t c = search needs
+
+shape-at-add-t17 : (t : ℕ) → shape-at-lts.Need-add-t17 (shape-at-calls t) (shape-at-at t) shape-at.Post
+shape-at-add-t17 t c =
+    let st = c .before .before .before .before .before .before .before .before in
+    let s = st .args .rule .now in
+    let at = st .args .at in
+    let g = st .pre .1 in
+    let l = rule-here s at (stands-good s at 0 g) in
+    omega arith
+
+shape-at-enum-known-k-2 : (t : ℕ) → shape-at-lts.Need-enum-known-k-2 (shape-at-calls t) (shape-at-at t) shape-at.Post
+shape-at-enum-known-k-2 t c = search needs
+
+shape-at-add-shape-at : (t : ℕ) → shape-at-lts.Need-add-shape-at (shape-at-calls t) (shape-at-at t) shape-at.Post
+shape-at-add-shape-at t c =
+    let st = c .before .before .before .before .before .before .before .before .before in
+    let s = st .args .rule .now in
+    let at = st .args .at in
+    let g = st .pre .1 in
+    let l = rule-here s at (stands-good s at 0 g) in
+    omega arith
+
+shape-at-shape-at-requires : (t : ℕ) → shape-at-lts.Need-shape-at-requires (shape-at-calls t) (shape-at-at t) shape-at.Post
+shape-at-shape-at-requires t c κs =
+    let st = c .before .before .before .before .before .before .before .before .before in
+    let s = st .args .rule .now in
+    let at = st .args .at in
+    let g = st .pre .1 in
+    let l = rule-here s at (stands-good s at 0 g) in
+    let q : kindOf (getD s at 0) ≡ OfRule (Again (c .before .k2 .given .0 .0)) = cc in
+    (omega arith, fits-again s at 0 g _ q)
+
+shape-at-again-shape-requires : (t : ℕ) → shape-at-lts.Need-again-shape-requires (shape-at-calls t) (shape-at-at t) shape-at.Post
+shape-at-again-shape-requires t c κs = search needs
+
+shape-at-enum-known-k-3 : (t : ℕ) → shape-at-lts.Need-enum-known-k-3 (shape-at-calls t) (shape-at-at t) shape-at.Post
+shape-at-enum-known-k-3 t c = search needs
+
+shape-at-add-shape-at-2 : (t : ℕ) → shape-at-lts.Need-add-shape-at-2 (shape-at-calls t) (shape-at-at t) shape-at.Post
+shape-at-add-shape-at-2 t c =
+    let st = c .before .before .before .before .before .before .before .before .before in
+    let s = st .args .rule .now in
+    let at = st .args .at in
+    let g = st .pre .1 in
+    let l = rule-here s at (stands-good s at 0 g) in
+    omega arith
+
+shape-at-shape-at-requires-2 : (t : ℕ) → shape-at-lts.Need-shape-at-requires-2 (shape-at-calls t) (shape-at-at t) shape-at.Post
+shape-at-shape-at-requires-2 t c κs =
+    let st = c .before .before .before .before .before .before .before .before .before in
+    let s = st .args .rule .now in
+    let at = st .args .at in
+    let g = st .pre .1 in
+    let l = rule-here s at (stands-good s at 0 g) in
+    let q : kindOf (getD s at 0) ≡ OfRule (Two (c .before .k3 .given .0 .0)) = cc in
+    (omega arith, fits-first s at 0 g _ q)
+
+shape-at-shape-at-requires-3 : (t : ℕ) → shape-at-lts.Need-shape-at-requires-3 (shape-at-calls t) (shape-at-at t) shape-at.Post
+shape-at-shape-at-requires-3 t c κs =
+    let st = c .before .before .before .before .before .before .before .before .before .before in
+    let s = st .args .rule .now in
+    let at = st .args .at in
+    let g = st .pre .1 in
+    let l = rule-here s at (stands-good s at 0 g) in
+    let q : kindOf (getD s at 0) ≡ OfRule (Two (c .before .before .k3 .given .0 .0)) = cc in
+    let h = fits-second s at 0 g _ q (c .shape-at2 .result) (c .shape-at2 .ensures) in
+    (omega arith, h .0)
+
+shape-at-pair-shape-requires : (t : ℕ) → shape-at-lts.Need-pair-shape-requires (shape-at-calls t) (shape-at-at t) shape-at.Post
+shape-at-pair-shape-requires t c κs =
+    let st = c .before .before .before .before .before .before .before .before .before .before .before in
+    let s = st .args .rule .now in
+    let at = st .args .at in
+    let g = st .pre .1 in
+    let l = rule-here s at (stands-good s at 0 g) in
+    let q : kindOf (getD s at 0) ≡ OfRule (Two (c .before .before .before .k3 .given .0 .0)) = cc in
+    let w = pair-weights s at 0 g _ q (c .before .shape-at2 .result) (c .shape-at3 .result) (c .before .shape-at2 .ensures) (c .shape-at3 .ensures) in
+    (w .0, w .1, omega (arith, w .2))
+
+shape-at-returns : (t : ℕ) → shape-at-lts.Need-returns (shape-at-calls t) (shape-at-at t) shape-at.Post
+shape-at-returns t c =
+    let st = c .before .before .before .before .before in
+    let s = st .args .rule .now in
+    let at = st .args .at in
+    let g = st .pre .1 in
+    let l = rule-here s at (stands-good s at 0 g) in
+    let q : kindOf (getD s at 0) ≡ Unknown = cc in
+    absurd (not-unknown s at (stands-good s at 0 g) q)
+
+shape-at-returns-2 : (t : ℕ) → shape-at-lts.Need-returns-2 (shape-at-calls t) (shape-at-at t) shape-at.Post
+shape-at-returns-2 t c =
+    let st = c .before .before .before .before .before in
+    let s = st .args .rule .now in
+    let at = st .args .at in
+    let g = st .pre .1 in
+    let l = rule-here s at (stands-good s at 0 g) in
+    let q : kindOf (getD s at 0) ≡ OfFormula (c .enum-told2 .given .0 .0) = cc in
+    absurd (not-formula s at (stands-good s at 0 g) _ q)
+
+shape-at-returns-3 : (t : ℕ) → shape-at-lts.Need-returns-3 (shape-at-calls t) (shape-at-at t) shape-at.Post
+shape-at-returns-3 t c =
+    let st = c .before .before .before .before .before .before .before .before .before in
+    let s = st .args .rule .now in
+    let at = st .args .at in
+    let g = st .pre .1 in
+    let l = rule-here s at (stands-good s at 0 g) in
+    let q : kindOf (getD s at 0) ≡ OfRule Letter = cc in
+    shaped-letter s at q (c .formula-past .result) (c .formula-past .ensures)
+
+shape-at-returns-4 : (t : ℕ) → shape-at-lts.Need-returns-4 (shape-at-calls t) (shape-at-at t) shape-at.Post
+shape-at-returns-4 t c =
+    let st = c .before .before .before .before .before .before .before .before in
+    let s = st .args .rule .now in
+    let at = st .args .at in
+    let g = st .pre .1 in
+    let l = rule-here s at (stands-good s at 0 g) in
+    let q : kindOf (getD s at 0) ≡ OfRule Empty = cc in
+    shaped-empty s at q
+
+shape-at-returns-5 : (t : ℕ) → shape-at-lts.Need-returns-5 (shape-at-calls t) (shape-at-at t) shape-at.Post
+shape-at-returns-5 t c =
+    let st = c .before .before .before .before .before .before .before .before .before .before .before in
+    let s = st .args .rule .now in
+    let at = st .args .at in
+    let g = st .pre .1 in
+    let l = rule-here s at (stands-good s at 0 g) in
+    let q : kindOf (getD s at 0) ≡ OfRule (Again (c .before .before .before .k2 .given .0 .0)) = cc in
+    shaped-again s at _ q (c .before .shape-at .result) (c .again-shape .result) (c .before .shape-at .ensures) (c .again-shape .ensures)
+
+shape-at-returns-6 : (t : ℕ) → shape-at-lts.Need-returns-6 (shape-at-calls t) (shape-at-at t) shape-at.Post
+shape-at-returns-6 t c =
+    let st = c .before .before .before .before .before .before .before .before .before .before .before .before in
+    let s = st .args .rule .now in
+    let at = st .args .at in
+    let g = st .pre .1 in
+    let l = rule-here s at (stands-good s at 0 g) in
+    let q : kindOf (getD s at 0) ≡ OfRule (Two (c .before .before .before .before .k3 .given .0 .0)) = cc in
+    shaped-two s at _ q (c .before .before .shape-at2 .result) (c .before .shape-at3 .result) (c .pair-shape .result) (c .before .before .shape-at2 .ensures) (c .before .shape-at3 .ensures) (c .pair-shape .ensures)
+
+pub +shape-at-spec : {M : Type 1} → statement M
++shape-at-spec = close μ-shape-at λ t. shape-at-lts.spec (shape-at-calls t)
+    (shape-at-at t)
+    shape-at.Post
+    (shape-at-shared-slice-read-kind-of t)
+    (shape-at-kind-of-requires t)
+    (shape-at-enum-told t)
+    (shape-at-enum-told-2 t)
+    (shape-at-enum-known-k t)
+    (shape-at-enum-told-3 t)
+    (shape-at-add-formula-past t)
+    (shape-at-formula-past-requires t)
+    (shape-at-enum-told-4 t)
+    (shape-at-add-t17 t)
+    (shape-at-enum-known-k-2 t)
+    (shape-at-add-shape-at t)
+    (shape-at-shape-at-requires t)
+    (shape-at-again-shape-requires t)
+    (shape-at-enum-known-k-3 t)
+    (shape-at-add-shape-at-2 t)
+    (shape-at-shape-at-requires-2 t)
+    (shape-at-shape-at-requires-3 t)
+    (shape-at-pair-shape-requires t)
+    (shape-at-returns t)
+    (shape-at-returns-2 t)
+    (shape-at-returns-3 t)
+    (shape-at-returns-4 t)
+    (shape-at-returns-5 t)
+    (shape-at-returns-6 t)

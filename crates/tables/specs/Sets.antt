@@ -1,0 +1,15 @@
+-- Sets of final states, made from the operands' sets. Assumes nothing: these are definitions.
+use Prim.Native.Nat.{ℕ, _/_, _%_, _<_}
+use mathlib.Core.Bool.{Bool, _&&_}
+use mathlib.Core.Logic.{_↔_}
+use lib.Dec.{T}
+use Rattle.bits.specs.Word.{bit}
+use Rattle.tables.specs.Build.{UpF}
+
+-- r is the set f with each state moved up by k
+pub record Raised (f k r : ℕ) : Type 0 where
+  pub moved : (q : ℕ) → q < 64 → T (bit r q) ↔ UpF k (λ j. T (bit f j)) q
+
+-- both states of the pair q are in their sets; b has n states
+unfoldable pub pairFinal : ℕ → ℕ → ℕ → ℕ → Bool
+pairFinal a b n q = bit a (q / n) && bit b (q % n)

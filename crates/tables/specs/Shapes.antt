@@ -1,0 +1,27 @@
+-- What is known of a rule that stands in the bytes before its table is built. Assumes nothing: these are definitions.
+use Prim.Native.Nat.{ℕ, _+_, _≤_}
+use mathlib.Core.Path.{_≡_}
+use mathlib.Core.List.{List}
+use Rattle.rules.specs.declared.kinds.Pair.{Pair}
+use Rattle.rules.specs.Definition1.{Rule, two}
+use Rattle.rules.specs.Places.{RuleAt}
+use Rattle.rules.specs.Weight.{weightOf, pairWeight, weightLimit}
+use Rattle.tables.specs.declared.shape.Shape.{Shape}
+use Rattle.tables.specs.Block.{FinalsAt, Built}
+
+-- a rule stands at the place, and its table has room from base on
+pub record Fits (s : List ℕ) (at base : ℕ) : Type 0 where
+  pub rule : Rule
+  pub past : ℕ
+  pub stands : RuleAt s at rule past
+  pub room : base + weightOf rule ≤ weightLimit
+
+-- the shape of the rule r, which ends at e: its end, its weight and its finals
+pub record ShapeOf (r : Rule) (e : ℕ) (h : Shape) : Type 0 where
+  pub ends : h .end ≡ e
+  pub weighs : h .weight ≡ weightOf r
+  pub final-set : FinalsAt (h .finals) 0 r
+
+-- the shape of whatever rule stands at the place
+pub record ShapedAs (s : List ℕ) (at : ℕ) (h : Shape) : Type 0 where
+  pub told : (r : Rule) (e : ℕ) → RuleAt s at r e → ShapeOf r e h

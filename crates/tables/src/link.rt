@@ -1,0 +1,43 @@
+// `;` and the repetitions: each final state of a block also gets what leaves a block's first state.
+ghost use Prim.Native.Nat.{_+_, _<_, _≤_};
+ghost use lib.ListN.{length};
+ghost use lib.Bits.{bitOr};
+ghost use Rattle.tables.specs.Table.{cell};
+ghost use Rattle.tables.specs.Cells.{Put, linked};
+use crate::cells::get;
+use crate::cells::put;
+
+// Row p also gets what leaves src, the first state of a block that ends at hi.
+pub fn unite_row(t: &mut [u64], p: usize, src: usize, hi: usize)
+    requires { ⌜ (4096 ≤ length (now t)) × (p < 64) × (src < hi) × (hi ≤ 64) ⌝ }
+    ensures { λ _. ⌜ Put (now (t .entry)) (now (t .exit)) p (p + 1) src hi (λ r s. bitOr (cell (now (t .entry)) r s) (cell (now (t .entry)) src s)) ⌝ }
+{
+    let mut q = src;
+    while q < hi {
+        let v = get(t, p, q) | get(t, src, q);
+        put(t, p, q, v);
+        q += 1;
+    }
+}
+
+// Row p also gets what leaves src, if p is final.
+fn link_row(t: &mut [u64], p: usize, src: usize, hi: usize, finals: u64)
+    requires { ⌜ (4096 ≤ length (now t)) × (p < 64) × (src < hi) × (hi ≤ 64) ⌝ }
+    ensures { λ _. ⌜ Put (now (t .entry)) (now (t .exit)) p (p + 1) src hi (linked (now (t .entry)) src finals) ⌝ }
+{
+    if bits::has(finals, p) {
+        unite_row(t, p, src, hi);
+    }
+}
+
+// Each final row of from to to also gets what leaves src, the first state of a block that ends at hi.
+pub fn link(t: &mut [u64], from: usize, to: usize, src: usize, hi: usize, finals: u64)
+    requires { ⌜ (4096 ≤ length (now t)) × (from ≤ to) × (to ≤ 64) × (src < hi) × (hi ≤ 64) ⌝ }
+    ensures { λ _. ⌜ Put (now (t .entry)) (now (t .exit)) from to src hi (linked (now (t .entry)) src finals) ⌝ }
+{
+    let mut p = from;
+    while p < to {
+        link_row(t, p, src, hi, finals);
+        p += 1;
+    }
+}

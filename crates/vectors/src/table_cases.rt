@@ -1,0 +1,102 @@
+// Built tables, label by label, and the limits of the builder.
+use tables::TableAnswer;
+use crate::bytes::front;
+use crate::bytes::put;
+use crate::bytes::put_many;
+use crate::show;
+
+fn show_label(table: &[u64], p: usize, q: usize) {
+    let at = 64 * p + q;
+    if at < table.len() {
+        let label = table[at];
+        if label != 0 {
+            show::text(b"  ");
+            show::number(p as u64);
+            show::text(b"-");
+            show::number(q as u64);
+            show::text(b" ");
+            show::word(label);
+            show::text(b"\n");
+        }
+    }
+}
+
+fn show_row(table: &[u64], p: usize) {
+    for q in 0..64 {
+        show_label(table, p, q);
+    }
+}
+
+// All 4,096 labels that are not 0, also those outside the weight, if there were any.
+fn show_labels(table: &[u64]) {
+    for p in 0..64 {
+        show_row(table, p);
+    }
+}
+
+// What building answers; whether there is a table.
+fn build(name: &[u8], rule: &[u8], table: &mut [u64]) -> bool {
+    show::text(name);
+    show::text(b": ");
+    match tables::build(rule, table) {
+        TableAnswer::Tabled { rule: known, finals } => {
+            show::text(b"weight ");
+            show::number(known.weight as u64);
+            show::text(b", finals");
+            show::members(finals);
+            show::text(b"\n");
+            return true;
+        }
+        TableAnswer::RuleRefused(x) => show::refused(x.number(), x.place()),
+        TableAnswer::ShortTable => show::refused(21, 0),
+    }
+    false
+}
+
+fn table_of(name: &[u8], rule: &[u8], table: &mut [u64]) {
+    if build(name, rule, table) {
+        show_labels(table);
+    }
+}
+
+fn operators(table: &mut [u64]) {
+    table_of(b"p0;{p1[*];p2}", b"\x12\x10\x01\x00\x12\x17\x10\x01\x01\x10\x01\x02", table);
+    table_of(b"empty", b"\x11", table);
+    table_of(b"p5", b"\x10\x01\x05", table);
+    table_of(b"p0[*]", b"\x17\x10\x01\x00", table);
+    table_of(b"p0[+]", b"\x18\x10\x01\x00", table);
+}
+
+fn pairs(table: &mut [u64]) {
+    table_of(b"p0;p1", b"\x12\x10\x01\x00\x10\x01\x01", table);
+    table_of(b"p0:p1", b"\x13\x10\x01\x00\x10\x01\x01", table);
+    table_of(b"p0|p1", b"\x14\x10\x01\x00\x10\x01\x01", table);
+    table_of(b"p0&p1", b"\x15\x10\x01\x00\x10\x01\x01", table);
+    table_of(b"p0&&p1", b"\x16\x10\x01\x00\x10\x01\x01", table);
+}
+
+fn weights(space: &mut [u8], table: &mut [u64]) {
+    let n = put_many(space, 0, b"\x12\x10\x02", 31);
+    let n = put(space, n, b"\x10\x02");
+    build(b"32 letters joined by ;", front(space, n), table);
+    let n = put(space, n, b"\x11");
+    build(b"the same with a byte after it", front(space, n), table);
+    build(b"in 4,095 entries", b"\x11", &mut table[..4095]);
+}
+
+fn nesting(space: &mut [u8], table: &mut [u64]) {
+    let n = put_many(space, 0, b"\x17", 254);
+    let n = put(space, n, b"\x11");
+    build(b"254 nested [*]", front(space, n), table);
+    let n = put_many(space, 0, b"\x16", 127);
+    let n = put_many(space, n, b"\x11", 128);
+    build(b"127 nested && of the empty sequence", front(space, n), table);
+    build(b"& of & of the empty sequence", b"\x15\x15\x11\x11\x11", table);
+}
+
+pub fn run(space: &mut [u8], table: &mut [u64]) {
+    operators(table);
+    pairs(table);
+    weights(space, table);
+    nesting(space, table);
+}

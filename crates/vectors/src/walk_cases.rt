@@ -1,0 +1,81 @@
+// Walks over built tables.
+use tables::TableAnswer;
+use walkers::FollowAnswer;
+use walkers::Refusal;
+use walkers::StepAnswer;
+use walkers::Walker;
+use crate::bytes::front;
+use crate::bytes::put;
+use crate::bytes::put_many;
+use crate::show;
+
+fn refused(x: Refusal) {
+    match x {
+        Refusal::ShortTable => show::refused(21, 0),
+        Refusal::BadLetter(i) => show::refused(22, i),
+    }
+}
+
+fn follow(name: &[u8], table: &[u64], finals: u64, letters: &[u8]) {
+    show::text(name);
+    show::text(b": ");
+    match walkers::follow(table, finals, letters) {
+        FollowAnswer::Ended(matched) => show::yes_or_no(matched),
+        FollowAnswer::Refused(x) => refused(x),
+    }
+}
+
+// One step of the walker, and the walker after it.
+fn step(table: &[u64], w: Walker, letter: u8) -> Walker {
+    let s = w.step(table, letter);
+    let walker = s.walker;
+    show::text(b"  letter ");
+    show::number(letter as u64);
+    show::text(b", in");
+    show::members(walker.set);
+    show::text(b": ");
+    let answer = s.answer;
+    match answer {
+        StepAnswer::Moved(matched) => show::yes_or_no(matched),
+        StepAnswer::Refused(x) => refused(x),
+    }
+    walker
+}
+
+fn steps(table: &[u64], finals: u64) {
+    show::text(b"stepping p0;{p1[*];p2}\n");
+    let w = Walker::start(finals);
+    let w = step(table, w, 1);
+    let w = step(table, w, 2);
+    let w = step(table, w, 64);
+    let w = step(b_short(table), w, 4);
+    let w = step(table, w, 6);
+    step(table, w, 2);
+}
+
+// A table that is one entry short.
+fn b_short(table: &[u64]) -> &[u64] {
+    if 4095 <= table.len() { &table[..4095] } else { table }
+}
+
+// Some hundred letters: p0, then p1 as often as n says, then p2.
+fn long(space: &mut [u8], table: &[u64], finals: u64, n: usize) {
+    let e = put(space, 0, b"\x01");
+    let e = put_many(space, e, b"\x02", n);
+    follow(b"  p0 and p1s without p2", table, finals, front(space, e));
+    let e = put(space, e, b"\x04");
+    follow(b"  p0, p1s and p2", table, finals, front(space, e));
+    let e = put(space, e, b"\x40");
+    follow(b"  and then no letter", table, finals, front(space, e));
+}
+
+pub fn run(space: &mut [u8], table: &mut [u64]) {
+    if let TableAnswer::Tabled { rule: _, finals } = tables::build(b"\x12\x10\x01\x00\x12\x17\x10\x01\x01\x10\x01\x02", table) {
+        steps(table, finals);
+        show::text(b"following p0;{p1[*];p2} over 300 letters and more\n");
+        long(space, table, finals, 300);
+    }
+    if let TableAnswer::Tabled { rule: _, finals } = tables::build(b"\x17\x11", table) {
+        follow(b"empty[*] on []", table, finals, b"");
+    }
+}
