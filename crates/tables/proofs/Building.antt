@@ -47,7 +47,7 @@ ready-on t t₁ base mid r y e b l = record { long = omega (arith, y .long); cle
 
 -- {a;true[*]}
 pub padded : (t t₁ t₂ t₃ : List ℕ) (base mid hi f : ℕ) (x : Rule) → Clean t base → mid ≡ base + weightOf x → hi ≡ mid + 2 → hi ≤ 64 → FinalsAt f base x
-  → Built t t₁ base x → Put t₁ t₂ mid (mid + 2) (mid + 1) (mid + 2) (λ p q. all 64) → Put t₂ t₃ base mid mid hi (linked t₂ mid f) → Built t t₃ base (two Then x anyRule)
+    → Built t t₁ base x → Put t₁ t₂ mid (mid + 2) (mid + 1) (mid + 2) (λ p q. all 64) → Put t₂ t₃ base mid mid hi (linked t₂ mid f) → Built t t₃ base (two Then x anyRule)
 padded t t₁ t₂ t₃ base mid hi f x c e d l fin b any put =
     then-built t t₁ t₂ t₃ base mid hi f x anyRule c e d l b (any-built t₁ t₂ mid (clean-on t t₁ base mid x c b (omega arith)) (omega arith) any) fin put
 
@@ -110,22 +110,22 @@ module _ (s : List ℕ) (o : Operands) (g : Stand s o) where
 
   module _ (t t₁ t₂ t₃ : List ℕ) (base mid hi f : ℕ) (y : Ready t base) (d : hi ≡ mid + o .b .weight) (l : hi ≤ 64) where
     pub then-done : mid ≡ base + o .a .weight → BuiltAt s (o .first) t t₁ base → BuiltAt s (o .a .end) t₁ t₂ mid → Raised (o .a .finals) base f
-      → Put t₂ t₃ base mid mid hi (linked t₂ mid f) → BuiltPair Then s o t t₃ base
+        → Put t₂ t₃ base mid mid hi (linked t₂ mid f) → BuiltPair Then s o t t₃ base
     then-done e h k r put =
         pair-all Then t t₃ base
         (then-built t t₁ t₂ t₃ base mid hi f a b (y .clean) (omega (arith, em)) (omega (arith, en)) l (first-built t t₁ base h) (second-built t₁ t₂ mid k)
-          (raise-finals r (g .first-shape .final-set)) put)
+        (raise-finals r (g .first-shape .final-set)) put)
 
     pub overlap-done : mid ≡ base + o .a .weight → BuiltAt s (o .first) t t₁ base → BuiltAt s (o .a .end) t₁ t₂ mid → Raised (o .a .finals) base f
-      → Put t₂ t₃ base mid mid hi (overlapped t₂ f base mid (mid - base)) → BuiltPair Overlap s o t t₃ base
+        → Put t₂ t₃ base mid mid hi (overlapped t₂ f base mid (mid - base)) → BuiltPair Overlap s o t t₃ base
     overlap-done e h k r put =
         pair-all Overlap t t₃ base
         (overlap-built t t₁ t₂ t₃ base mid hi f a b (y .clean) (omega (arith, em)) (omega (arith, en)) l (first-built t t₁ base h) (second-built t₁ t₂ mid k)
-          (raise-finals r (g .first-shape .final-set)) (mid - base) (omega (arith, em)) put)
+        (raise-finals r (g .first-shape .final-set)) (mid - base) (omega (arith, em)) put)
 
   module _ (t t₁ t₂ t₃ : List ℕ) (base mid hi : ℕ) (y : Ready t base) where
     pub either-done : hi ≡ mid + o .b .weight → hi ≤ 64 → mid ≡ base + 1 + o .a .weight → BuiltAt s (o .first) t t₁ (base + 1) → BuiltAt s (o .a .end) t₁ t₂ mid
-      → Put t₂ t₃ base (base + 1) (base + 1) hi (chosen t₂ base mid) → BuiltPair Either s o t t₃ base
+        → Put t₂ t₃ base (base + 1) (base + 1) hi (chosen t₂ base mid) → BuiltPair Either s o t t₃ base
     either-done d l e h k put =
         pair-all Either t t₃ base
         (either-built t t₁ t₂ t₃ base mid hi a b (y .clean) (omega (arith, em)) (omega (arith, en)) l (first-built t t₁ (base + 1) h) (second-built t₁ t₂ mid k) put)
@@ -145,7 +145,7 @@ module _ (s : List ℕ) (o : Operands) (g : Stand s o) where
 
   module _ (t t₁ t₂ t₃ : List ℕ) (base : ℕ) (y : Ready t base) where
     pub both-done : base + o .a .weight * o .b .weight ≤ 64 → 2 ≤ o .a .weight → 2 ≤ o .b .weight → BuiltAt s (o .first) t t₁ base → BuiltAt s (o .a .end) t₁ t₂ (base + o .a .weight)
-      → Put t₂ t₃ base (base + o .a .weight * o .b .weight) base (base + o .a .weight * o .b .weight) (paired t₂ base (o .a .weight) (o .b .weight)) → BuiltPair Both s o t t₃ base
+        → Put t₂ t₃ base (base + o .a .weight * o .b .weight) base (base + o .a .weight * o .b .weight) (paired t₂ base (o .a .weight) (o .b .weight)) → BuiltPair Both s o t t₃ base
     both-done l u v h k put =
         pair-all Both t t₃ base
         (both-built t t₁ t₂ t₃ base (o .a .weight) (o .b .weight) a b (y .clean) em en l u v (first-built t t₁ base h) (second-built t₁ t₂ (base + o .a .weight) k) put)
@@ -158,25 +158,25 @@ module _ (s : List ℕ) (o : Operands) (g : Stand s o) where
 
   module _ (t t₁ t₂ t₃ t₄ : List ℕ) (base f : ℕ) (y : Ready t base) where
     pub left-done : base + o .a .weight * (o .b .weight + 2) ≤ 64 → 2 ≤ o .a .weight → BuiltAt s (o .first) t t₁ base → BuiltAt s (o .a .end) t₁ t₂ (base + o .a .weight)
-      → Raised (o .b .finals) (base + o .a .weight) f → Padded t₂ t₃ (base + o .a .weight) (o .b .weight) f
-      → Put t₃ t₄ base (base + o .a .weight * (o .b .weight + 2)) base (base + o .a .weight * (o .b .weight + 2)) (paired t₃ base (o .a .weight) (o .b .weight + 2))
-      → BuiltLeft s o t t₄ base
+        → Raised (o .b .finals) (base + o .a .weight) f → Padded t₂ t₃ (base + o .a .weight) (o .b .weight) f
+        → Put t₃ t₄ base (base + o .a .weight * (o .b .weight + 2)) base (base + o .a .weight * (o .b .weight + 2)) (paired t₃ base (o .a .weight) (o .b .weight + 2))
+        → BuiltLeft s o t t₄ base
     left-done l u h k r pad put =
         let ba = first-built t t₁ base h in
         left-all t t₄ base
         (both-built t t₁ t₃ t₄ base (o .a .weight) (o .b .weight + 2) a (two Then b anyRule) (y .clean) em (omega (arith, en)) l u (omega arith) ba
-          (pad t₁ b (clean-on t t₁ base (base + o .a .weight) a (y .clean) ba (omega (arith, em))) en (raise-finals r (g .second-shape .final-set))
-            (second-built t₁ t₂ (base + o .a .weight) k))
-          put)
+        (pad t₁ b (clean-on t t₁ base (base + o .a .weight) a (y .clean) ba (omega (arith, em))) en (raise-finals r (g .second-shape .final-set))
+        (second-built t₁ t₂ (base + o .a .weight) k))
+        put)
 
     pub right-done : base + (o .a .weight + 2) * o .b .weight ≤ 64 → 2 ≤ o .b .weight → BuiltAt s (o .first) t t₁ base → Raised (o .a .finals) base f
-      → Padded t₁ t₂ base (o .a .weight) f → BuiltAt s (o .a .end) t₂ t₃ (base + (o .a .weight + 2))
-      → Put t₃ t₄ base (base + (o .a .weight + 2) * o .b .weight) base (base + (o .a .weight + 2) * o .b .weight) (paired t₃ base (o .a .weight + 2) (o .b .weight))
-      → BuiltRight s o t t₄ base
+        → Padded t₁ t₂ base (o .a .weight) f → BuiltAt s (o .a .end) t₂ t₃ (base + (o .a .weight + 2))
+        → Put t₃ t₄ base (base + (o .a .weight + 2) * o .b .weight) base (base + (o .a .weight + 2) * o .b .weight) (paired t₃ base (o .a .weight + 2) (o .b .weight))
+        → BuiltRight s o t t₄ base
     right-done l u h r pad k put =
         right-all t t₄ base
         (both-built t t₂ t₃ t₄ base (o .a .weight + 2) (o .b .weight) (two Then a anyRule) b (y .clean) (omega (arith, em)) en l (omega (arith, some-a)) u
-          (pad t a (y .clean) em (raise-finals r (g .first-shape .final-set)) (first-built t t₁ base h)) (second-built t₂ t₃ (base + (o .a .weight + 2)) k) put)
+        (pad t a (y .clean) em (raise-finals r (g .first-shape .final-set)) (first-built t t₁ base h)) (second-built t₂ t₃ (base + (o .a .weight + 2)) k) put)
 
   module _ (t t₁ : List ℕ) (base mid : ℕ) (y : Ready t base) (e : mid ≡ base + 1 + o .a .weight * (o .b .weight + 2)) (h : BuiltLeft s o t t₁ (base + 1)) where
     the-left : Built t t₁ (base + 1) (two Both a (two Then b anyRule))
@@ -192,8 +192,8 @@ module _ (s : List ℕ) (o : Operands) (g : Stand s o) where
     within-done t₂ t₃ hi d l k put =
         pair-all Within t t₃ base
         (within-built t t₃ base a b
-          (either-built t t₁ t₂ t₃ base mid hi (two Both a (two Then b anyRule)) (two Both (two Then a anyRule) b) (y .clean) left-weight (d ∙ ap₂ (λ (i j : ℕ). mid + (i + 2) * j) em en) l the-left
-            (k .built a b (g .past) (g .first-stands) (g .second-stands)) put))
+        (either-built t t₁ t₂ t₃ base mid hi (two Both a (two Then b anyRule)) (two Both (two Then a anyRule) b) (y .clean) left-weight (d ∙ ap₂ (λ (i j : ℕ). mid + (i + 2) * j) em en) l the-left
+        (k .built a b (g .past) (g .first-stands) (g .second-stands)) put))
 
 -- ---- a rule by its kind
 
@@ -208,7 +208,7 @@ module _ (s : List ℕ) (at base : ℕ) (g : Fits s at base) where
   shape-room h u = let o = u .told (g .rule) (g .past) (g .stands) in (omega (arith, o .weighs, weight-pos (g .rule)), omega (arith, o .weighs, g .room))
 
   pub again-done : (t t₁ t₂ : List ℕ) (hi f : ℕ) (h : Shape) → ShapedAs s at h → hi ≡ base + h .weight → BuiltAt s at t t₁ base → Raised (h .finals) base f
-    → Put t₁ t₂ base hi base hi (linked t₁ base f) → BuiltAgain s at t t₂ base
+      → Put t₁ t₂ base hi base hi (linked t₁ base f) → BuiltAgain s at t t₂ base
   again-done t t₁ t₂ hi f h u e k r put = record { built = go }
     where
       go : (p : Repeat) (x : Rule) (z : ℕ) → RuleAt s at x z → Built t t₂ base (again p x)
@@ -223,12 +223,12 @@ module _ (s : List ℕ) (at base : ℕ) (g : Fits s at base) where
   letter-room q = let i = rule-of s (OfRule Letter) (g .stands) q in rw (i .1) at (g .room)
 
   pub letter-done : kindOf (getD s at 0) ≡ OfRule Letter → (t t₁ : List ℕ) (v : ℕ) → Ready t base → LabelAs s (at + 1) v
-    → Put t t₁ base (base + 1) (base + 1) (base + 1 + 1) (λ p q. v) → BuiltAt s at t t₁ base
+      → Put t t₁ base (base + 1) (base + 1) (base + 1 + 1) (λ p q. v) → BuiltAt s at t t₁ base
   letter-done q t t₁ v y is put = record {
     built = λ x z d.
-      let i = rule-of s (OfRule Letter) d q in
-      let e : base + 1 + 1 ≡ base + 2 = omega arith in
-      rw (i .1) (letter-built t t₁ base v (i .0) (y .clean) (letter-room q) (is (i .0) z (i .2)) (rw e at put));
+        let i = rule-of s (OfRule Letter) d q in
+        let e : base + 1 + 1 ≡ base + 2 = omega arith in
+        rw (i .1) (letter-built t t₁ base v (i .0) (y .clean) (letter-room q) (is (i .0) z (i .2)) (rw e at put));
   }
 
   pub empty-done : kindOf (getD s at 0) ≡ OfRule Empty → (t : List ℕ) → Ready t base → BuiltAt s at t t base
@@ -259,7 +259,7 @@ module _ (s : List ℕ) (at base : ℕ) (g : Fits s at base) where
     pub pair-step : (t t′ : List ℕ) → BuiltPair p s (record { first = at + 1; a = h; b = k }) t t′ base → BuiltAt s at t t′ base
     pair-step t t′ w = record {
       built = λ x z d.
-        let i = rule-of s (OfRule (Two p)) d q in
-        let o = u .told (i .0) (i .2) (i .4) in
-        rw (i .3) (w .built (i .0) (i .1) z (rw (sym (o .ends)) at (i .4)) (rw (sym (o .ends)) at (i .5)));
+          let i = rule-of s (OfRule (Two p)) d q in
+          let o = u .told (i .0) (i .2) (i .4) in
+          rw (i .3) (w .built (i .0) (i .1) z (rw (sym (o .ends)) at (i .4)) (rw (sym (o .ends)) at (i .5)));
     }

@@ -45,7 +45,7 @@ module _ (s t : List ℕ) where
 
   module _ (u v : List ℕ) (hu : Words u) (hv : Words v) where
     same-table : (r r′ : Rule) (f g : ℕ) → r ≡ r′ → f < 2 ^ 64 → g < 2 ^ 64 → IsTable r u f → IsTable r′ v g → SamePast t u → SamePast t v
-      → (tabled (knownOf r) f ≡ tabled (knownOf r′) g) × (u ≡ v)
+        → (tabled (knownOf r) f ≡ tabled (knownOf r′) g) × (u ≡ v)
     same-table r r′ f g e lf lg i j p q =
         let j′ : IsTable r v g = rw e j in
         (ap₂ tabled (ap knownOf e) (one-finals r u v f g i j′ lf lg), same-slice r f g u v i j′ hu hv p q)

@@ -56,7 +56,7 @@ module _ (s : List ℕ) (at base : ℕ) (g : Fits s at base) where
 
   -- the weights of the operands' shapes
   pub pair-weights : (p : Pair) → kindOf (getD s at 0) ≡ OfRule (Two p) → (h k : Shape) → ShapedAs s (at + 1) h → ShapedAs s (h .end) k
-    → (0 < h .weight) × (0 < k .weight) × (base + pairWeight p (h .weight) (k .weight) ≤ weightLimit)
+      → (0 < h .weight) × (0 < k .weight) × (base + pairWeight p (h .weight) (k .weight) ≤ weightLimit)
   pair-weights p q h k t u =
       let i = rule-of s (OfRule (Two p)) (g .stands) q in
       let o = t .told (i .0) (i .2) (i .4) in
@@ -77,16 +77,16 @@ module _ (s : List ℕ) (at : ℕ) where
   }
 
   pub shaped-again : (p : Repeat) → kindOf (getD s at 0) ≡ OfRule (Again p) → (h k : Shape) → ShapedAs s (at + 1) h
-    → ((x : Rule) (e : ℕ) → ShapeOf x e h → ShapeOf (again p x) e k) → ShapedAs s at k
+      → ((x : Rule) (e : ℕ) → ShapeOf x e h → ShapeOf (again p x) e k) → ShapedAs s at k
   shaped-again p q h k t f = record {
     told = λ r e d. let i = rule-of s (OfRule (Again p)) d q in rw (i .1) (f (i .0) e (t .told (i .0) e (i .2)));
   }
 
   pub shaped-two : (p : Pair) → kindOf (getD s at 0) ≡ OfRule (Two p) → (h k w : Shape) → ShapedAs s (at + 1) h → ShapedAs s (h .end) k
-    → ((x y : Rule) (d e : ℕ) → ShapeOf x d h → ShapeOf y e k → ShapeOf (two p x y) e w) → ShapedAs s at w
+      → ((x y : Rule) (d e : ℕ) → ShapeOf x d h → ShapeOf y e k → ShapeOf (two p x y) e w) → ShapedAs s at w
   shaped-two p q h k w t u f = record {
     told = λ r e d.
-      let i = rule-of s (OfRule (Two p)) d q in
-      let o = t .told (i .0) (i .2) (i .4) in
-      rw (i .3) (f (i .0) (i .1) (i .2) e o (u .told (i .1) e (rw (o .ends) (i .5))));
+        let i = rule-of s (OfRule (Two p)) d q in
+        let o = t .told (i .0) (i .2) (i .4) in
+        rw (i .3) (f (i .0) (i .1) (i .2) e o (u .told (i .1) e (rw (o .ends) (i .5))));
   }

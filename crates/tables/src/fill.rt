@@ -7,12 +7,6 @@ ghost use Rattle.rules.specs.Weight.{pairWeight, weightLimit};
 ghost use Rattle.tables.specs.Block.{Built};
 ghost use Rattle.tables.specs.Shapes.{Fits};
 ghost use Rattle.tables.specs.Building.{Ready, Stand, BuiltAt, BuiltAgain, BuiltPair, BuiltLeft, BuiltRight};
-
-use rules::formulas::label_at;
-use rules::kinds::Kind;
-use rules::kinds::Pair;
-use rules::kinds::RuleKind;
-use rules::kinds::kind_of;
 use crate::any::pad;
 use crate::cells::put;
 use crate::choice::choice;
@@ -22,6 +16,11 @@ use crate::overlap::overlap;
 use crate::product::product;
 use crate::shape::Shape;
 use crate::shape::shape_at;
+use rules::formulas::label_at;
+use rules::kinds::Kind;
+use rules::kinds::Pair;
+use rules::kinds::RuleKind;
+use rules::kinds::kind_of;
 
 // The operands of an operator: where the first stands, and both shapes. The second stands where the first ends.
 pub struct Operands {

@@ -4,21 +4,21 @@ ghost use Prim.Native.Nat.{ℕ, _<_, _≤_};
 ghost use Rattle.rules.specs.Definition1.{Rule, two, again};
 ghost use Rattle.rules.specs.Weight.{pairWeight, weightLimit};
 ghost use Rattle.tables.specs.Shapes.{Fits, ShapeOf, ShapedAs};
-
+use crate::finals::both_finals;
+use crate::finals::either_finals;
+use crate::finals::raise;
+use crate::finals::then_finals;
+use crate::finals::within_finals;
 use rules::ends::formula_past;
 use rules::kinds::Kind;
 use rules::kinds::Pair;
 use rules::kinds::Repeat;
 use rules::kinds::RuleKind;
 use rules::kinds::kind_of;
-use crate::finals::both_finals;
-use crate::finals::either_finals;
-use crate::finals::raise;
-use crate::finals::then_finals;
-use crate::finals::within_finals;
 
 // The empty sequence has one state, which is final; a letter has two, of which the second is.
 const EMPTY_FINALS: u64 = 1;
+
 const LETTER_FINALS: u64 = 2;
 
 // Where a rule ends in the bytes, how many states its table has, and which of them are final.

@@ -1,11 +1,11 @@
 // Rules and sequences that are drawn: the plain judge, and the built table followed, must say the same.
-use judge::JudgeAnswer;
-use tables::TableAnswer;
-use walkers::FollowAnswer;
 use crate::bytes::front;
 use crate::draws::draw_letters;
 use crate::draws::draw_rule;
 use crate::show;
+use judge::JudgeAnswer;
+use tables::TableAnswer;
+use walkers::FollowAnswer;
 
 const CASES: usize = 600;
 
@@ -26,13 +26,13 @@ enum Said {
     Refused,
 }
 
-fn said(matched: bool) -> Said {
+fn yes_or_no(matched: bool) -> Said {
     if matched { Said::Yes } else { Said::No }
 }
 
 fn judge_says(rule: &[u8], letters: &[u8]) -> Said {
     match judge::judge(rule, letters) {
-        JudgeAnswer::Judged { accepts, rule: _ } => said(accepts),
+        JudgeAnswer::Judged { accepts, rule: _ } => yes_or_no(accepts),
         JudgeAnswer::RuleRefused(_) => Said::Refused,
         JudgeAnswer::TooManyLetters => Said::Refused,
         JudgeAnswer::NoLetter(_) => Said::Refused,
@@ -44,7 +44,7 @@ fn table_says(rule: &[u8], letters: &[u8], table: &mut [u64]) -> Said {
         TableAnswer::RuleRefused(_) => Said::Refused,
         TableAnswer::ShortTable => Said::Refused,
         TableAnswer::Tabled { rule: _, finals } => match walkers::follow(table, finals, letters) {
-            FollowAnswer::Ended(matched) => said(matched),
+            FollowAnswer::Ended(matched) => yes_or_no(matched),
             FollowAnswer::Refused(_) => Said::Refused,
         },
     }
@@ -55,25 +55,45 @@ fn one_more(n: u64) -> u64 {
 }
 
 fn apart(t: Tally) -> Tally {
-    Tally { yes: t.yes, no: t.no, refused: t.refused, apart: one_more(t.apart) }
+    Tally {
+        yes: t.yes,
+        no: t.no,
+        refused: t.refused,
+        apart: one_more(t.apart),
+    }
 }
 
 fn tallied(t: Tally, a: Said, b: Said) -> Tally {
     match a {
         Said::Yes => match b {
-            Said::Yes => Tally { yes: one_more(t.yes), no: t.no, refused: t.refused, apart: t.apart },
+            Said::Yes => Tally {
+                yes: one_more(t.yes),
+                no: t.no,
+                refused: t.refused,
+                apart: t.apart,
+            },
             Said::No => apart(t),
             Said::Refused => apart(t),
         },
         Said::No => match b {
             Said::Yes => apart(t),
-            Said::No => Tally { yes: t.yes, no: one_more(t.no), refused: t.refused, apart: t.apart },
+            Said::No => Tally {
+                yes: t.yes,
+                no: one_more(t.no),
+                refused: t.refused,
+                apart: t.apart,
+            },
             Said::Refused => apart(t),
         },
         Said::Refused => match b {
             Said::Yes => apart(t),
             Said::No => apart(t),
-            Said::Refused => Tally { yes: t.yes, no: t.no, refused: one_more(t.refused), apart: t.apart },
+            Said::Refused => Tally {
+                yes: t.yes,
+                no: t.no,
+                refused: one_more(t.refused),
+                apart: t.apart,
+            },
         },
     }
 }
@@ -94,18 +114,13 @@ fn one_case(space: &mut [u8], letters: &mut [u8], table: &mut [u64], p: Progress
     let drawn = draw_letters(letters, rule.seed);
     let t = p.tally;
     let tally = compare(front(space, rule.end), front(letters, drawn.end), table, t);
-    Progress { seed: drawn.seed, tally }
+    Progress {
+        seed: drawn.seed,
+        tally,
+    }
 }
 
-pub fn run(space: &mut [u8], letters: &mut [u8], table: &mut [u64]) {
-    let mut p = Progress {
-        seed: FIRST_SEED,
-        tally: Tally { yes: 0, no: 0, refused: 0, apart: 0 },
-    };
-    for _ in 0..CASES {
-        p = one_case(space, letters, table, p);
-    }
-    let t = p.tally;
+fn report(t: Tally) {
     show::text(b"judge and table on drawn rules: both yes ");
     show::number(t.yes);
     show::text(b", both no ");
@@ -115,4 +130,29 @@ pub fn run(space: &mut [u8], letters: &mut [u8], table: &mut [u64]) {
     show::text(b", apart ");
     show::number(t.apart);
     show::text(b"\n");
+}
+
+fn start() -> Progress {
+    Progress {
+        seed: FIRST_SEED,
+        tally: Tally {
+            yes: 0,
+            no: 0,
+            refused: 0,
+            apart: 0,
+        },
+    }
+}
+
+fn all_cases(space: &mut [u8], letters: &mut [u8], table: &mut [u64]) -> Progress {
+    let mut p = start();
+    for _ in 0..CASES {
+        p = one_case(space, letters, table, p);
+    }
+    p
+}
+
+pub fn run(space: &mut [u8], letters: &mut [u8], table: &mut [u64]) {
+    let p = all_cases(space, letters, table);
+    report(p.tally);
 }

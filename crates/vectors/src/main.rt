@@ -1,13 +1,13 @@
 // Runs the papers' cases and prints what came out, a line for each; the file stdout holds what should come out.
+mod agree;
 mod bytes;
 mod draws;
-mod show;
-mod rule_cases;
-mod model_cases;
 mod judge_cases;
+mod model_cases;
+mod rule_cases;
+mod show;
 mod table_cases;
 mod walk_cases;
-mod agree;
 
 fn main() {
     let mut space = [0u8; 1024];

@@ -1,23 +1,33 @@
 // Built tables, label by label, and the limits of the builder.
-use tables::TableAnswer;
 use crate::bytes::front;
 use crate::bytes::put;
 use crate::bytes::put_many;
 use crate::show;
+use tables::TableAnswer;
+
+// The label from p to q.
+fn label(table: &[u64], p: usize, q: usize) -> u64 {
+    if p < 64 {
+        if q < 64 {
+            let at = 64 * p + q;
+            if at < table.len() {
+                return table[at];
+            }
+        }
+    }
+    0
+}
 
 fn show_label(table: &[u64], p: usize, q: usize) {
-    let at = 64 * p + q;
-    if at < table.len() {
-        let label = table[at];
-        if label != 0 {
-            show::text(b"  ");
-            show::number(p as u64);
-            show::text(b"-");
-            show::number(q as u64);
-            show::text(b" ");
-            show::word(label);
-            show::text(b"\n");
-        }
+    let word = label(table, p, q);
+    if word != 0 {
+        show::text(b"  ");
+        show::number(p as u64);
+        show::text(b"-");
+        show::number(q as u64);
+        show::text(b" ");
+        show::word(word);
+        show::text(b"\n");
     }
 }
 
@@ -39,7 +49,10 @@ fn build(name: &[u8], rule: &[u8], table: &mut [u64]) -> bool {
     show::text(name);
     show::text(b": ");
     match tables::build(rule, table) {
-        TableAnswer::Tabled { rule: known, finals } => {
+        TableAnswer::Tabled {
+            rule: known,
+            finals,
+        } => {
             show::text(b"weight ");
             show::number(known.weight as u64);
             show::text(b", finals");
@@ -60,7 +73,11 @@ fn table_of(name: &[u8], rule: &[u8], table: &mut [u64]) {
 }
 
 fn operators(table: &mut [u64]) {
-    table_of(b"p0;{p1[*];p2}", b"\x12\x10\x01\x00\x12\x17\x10\x01\x01\x10\x01\x02", table);
+    table_of(
+        b"p0;{p1[*];p2}",
+        b"\x12\x10\x01\x00\x12\x17\x10\x01\x01\x10\x01\x02",
+        table,
+    );
     table_of(b"empty", b"\x11", table);
     table_of(b"p5", b"\x10\x01\x05", table);
     table_of(b"p0[*]", b"\x17\x10\x01\x00", table);
@@ -75,28 +92,52 @@ fn pairs(table: &mut [u64]) {
     table_of(b"p0&&p1", b"\x16\x10\x01\x00\x10\x01\x01", table);
 }
 
-fn weights(space: &mut [u8], table: &mut [u64]) {
+fn heaviest(space: &mut [u8], table: &mut [u64]) {
     let n = put_many(space, 0, b"\x12\x10\x02", 31);
     let n = put(space, n, b"\x10\x02");
     build(b"32 letters joined by ;", front(space, n), table);
-    let n = put(space, n, b"\x11");
-    build(b"the same with a byte after it", front(space, n), table);
-    build(b"in 4,095 entries", b"\x11", &mut table[..4095]);
 }
 
-fn nesting(space: &mut [u8], table: &mut [u64]) {
+// One state more than a table has.
+fn too_heavy(space: &mut [u8], table: &mut [u64]) {
+    let n = put(space, 0, b"\x12\x11");
+    let n = put_many(space, n, b"\x12\x10\x02", 31);
+    let n = put(space, n, b"\x10\x02");
+    build(b"one state more", front(space, n), table);
+}
+
+fn too_short() {
+    let mut few = [0u64; 4095];
+    build(b"in 4,095 entries", b"\x11", &mut few);
+}
+
+fn repetitions(space: &mut [u8], table: &mut [u64]) {
     let n = put_many(space, 0, b"\x17", 254);
     let n = put(space, n, b"\x11");
     build(b"254 nested [*]", front(space, n), table);
+}
+
+fn products(space: &mut [u8], table: &mut [u64]) {
     let n = put_many(space, 0, b"\x16", 127);
     let n = put_many(space, n, b"\x11", 128);
-    build(b"127 nested && of the empty sequence", front(space, n), table);
-    build(b"& of & of the empty sequence", b"\x15\x15\x11\x11\x11", table);
+    build(
+        b"127 nested && of the empty sequence",
+        front(space, n),
+        table,
+    );
+    build(
+        b"& of & of the empty sequence",
+        b"\x15\x15\x11\x11\x11",
+        table,
+    );
 }
 
 pub fn run(space: &mut [u8], table: &mut [u64]) {
     operators(table);
     pairs(table);
-    weights(space, table);
-    nesting(space, table);
+    heaviest(space, table);
+    too_heavy(space, table);
+    too_short();
+    repetitions(space, table);
+    products(space, table);
 }
