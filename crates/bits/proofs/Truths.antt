@@ -3,7 +3,6 @@ use mathlib.Core.Path.{_≡_, refl}
 use mathlib.Core.Logic.{_⊎_, inl, inr, _↔_}
 use mathlib.Core.Bool.{Bool, true, false, _&&_, _||_}
 use lib.Dec.{T}
-use Rattle.bits.specs.Says.{Says}
 
 pub and-T : (a b : Bool) → T (a && b) ↔ (T a × T b)
 and-T true b = (λ t. (tt, t), λ h. h .1)
@@ -19,6 +18,13 @@ true-T b e = rw e tt
 pub T-true : (b : Bool) → T b → b ≡ true
 T-true true t = refl
 T-true false t = absurd t
+
+pub no-false : (b : Bool) → (T b → ⊥) → b ≡ false
+no-false true n = absurd (n tt)
+no-false false n = refl
+
+pub false-no : (b : Bool) → b ≡ false → T b → ⊥
+false-no b e t = rw e at t
 
 -- two answers that say the same are the same
 pub same-truth : (a b : Bool) → (T a → T b) → (T b → T a) → a ≡ b

@@ -4,17 +4,17 @@ use native.Mathlib.Omega.{arith}
 use mathlib.Core.Path.{_≡_, refl, sym, ap, subst⁻¹, _∙_}
 use mathlib.Core.Bool.{Bool}
 use mathlib.Core.List.{List}
-use lib.Dec.{eqb}
+use lib.Dec.{eqb, ltb}
 use Rattle.bits.specs.Says.{Says}
 use Rattle.rules.specs.declared.Refusal.{Refusal}
-use Rattle.rules.specs.declared.Refusal.the-variants.{TooLong, Ended, UnknownKind, WrongSort, NoProposition, Leftover, TooHeavy}
 use Rattle.rules.specs.Definition1.{Rule}
 use Rattle.rules.specs.Definition2.{Sat}
 use Rattle.rules.specs.Kinds.{pick}
 use Rattle.rules.specs.Refusals.{number, place}
 use Rattle.rules.specs.Answer as rules
 use Rattle.rules.specs.Answer.{answer, AcceptedAs, knownOf}
-use Rattle.rules.proofs.Accepting.{accepted-answer, accepted-once}
+use Rattle.rules.proofs.Accepting.{not-refused, accepted-once}
+use Rattle.rules.proofs.Once.{named, named-told, of-a-rule}
 use Rattle.judge.specs.declared.JudgeAnswer.{JudgeAnswer}
 use Rattle.judge.specs.declared.JudgeAnswer.the-variants.{Judged, RuleRefused, TooManyLetters, NoLetter}
 use Rattle.judge.specs.Verdict.{Verdict, judged, refused, told, Right, rule-refused, too-many, no-letter, decided}
@@ -22,12 +22,6 @@ use Rattle.judge.proofs.Sayings.{says-once}
 use Rattle.judge.proofs.Strays.{stray-once, no-stray}
 
 module _ (s w : List ℕ) where
-  not-both : (n p : ℕ) (r : Rule) → answer s ≡ rules.refused n p → AcceptedAs s r → ⊥
-  not-both n p r q a =
-      let e : answer s ≡ rules.accepted (knownOf r) = accepted-answer s r a in
-      let z : _≡_ {A = ℕ} 0 1 = cc in
-      omega arith
-
   same-answer : (r r′ : Rule) → AcceptedAs s r → AcceptedAs s r′ → (b b′ : Bool) → Says b (Sat r w) → Says b′ (Sat r′ w) → judged b (knownOf r) ≡ judged b′ (knownOf r′)
   same-answer r r′ a a′ b b′ h h′ =
       let q : r ≡ r′ = accepted-once s r r′ a a′ in
@@ -37,44 +31,32 @@ module _ (s w : List ℕ) where
 
   one-verdict : {v : Verdict} → Right s w v → {v′ : Verdict} → Right s w v′ → v ≡ v′
   one-verdict (rule-refused q) (rule-refused q′) = cc
-  one-verdict (rule-refused q) (too-many a l) = absurd (not-both _ _ _ q a)
-  one-verdict (rule-refused q) (no-letter a f h) = absurd (not-both _ _ _ q a)
-  one-verdict (rule-refused q) (decided a f h d) = absurd (not-both _ _ _ q a)
-  one-verdict (too-many a l) (rule-refused q) = absurd (not-both _ _ _ q a)
+  one-verdict (rule-refused q) (too-many a l) = absurd (not-refused s _ _ _ q a)
+  one-verdict (rule-refused q) (no-letter a f h) = absurd (not-refused s _ _ _ q a)
+  one-verdict (rule-refused q) (decided a f h d) = absurd (not-refused s _ _ _ q a)
+  one-verdict (too-many a l) (rule-refused q) = absurd (not-refused s _ _ _ q a)
   one-verdict (too-many a l) (too-many a′ l′) = refl
   one-verdict (too-many a l) (no-letter a′ f h) = absurd (omega (arith, f .few))
   one-verdict (too-many a l) (decided a′ f h d) = absurd (omega (arith, f .few))
-  one-verdict (no-letter a f h) (rule-refused q) = absurd (not-both _ _ _ q a)
+  one-verdict (no-letter a f h) (rule-refused q) = absurd (not-refused s _ _ _ q a)
   one-verdict (no-letter a f h) (too-many a′ l) = absurd (omega (arith, f .few))
   one-verdict (no-letter a f h) (no-letter a′ f′ h′) = ap (refused 22) (stray-once w _ _ h h′)
   one-verdict (no-letter a f h) (decided a′ f′ h′ d) = absurd (no-stray w _ h h′)
-  one-verdict (decided a f h d) (rule-refused q) = absurd (not-both _ _ _ q a)
+  one-verdict (decided a f h d) (rule-refused q) = absurd (not-refused s _ _ _ q a)
   one-verdict (decided a f h d) (too-many a′ l) = absurd (omega (arith, f .few))
   one-verdict (decided a f h d) (no-letter a′ f′ h′) = absurd (no-stray w _ h′ h)
   one-verdict (decided a f h d) (decided a′ f′ h′ d′) = same-answer _ _ a a′ _ _ d d′
 
 -- the answer that a verdict tells of: `told` loses nothing
 abbrev refusalOf : ℕ → ℕ → JudgeAnswer
-refusalOf n p =
-    pick (eqb n 1) (RuleRefused TooLong)
-    (pick (eqb n 2) (RuleRefused (Ended p))
-    (pick (eqb n 3) (RuleRefused (UnknownKind p))
-    (pick (eqb n 4) (RuleRefused (WrongSort p))
-    (pick (eqb n 5) (RuleRefused (NoProposition p))
-    (pick (eqb n 6) (RuleRefused (Leftover p)) (pick (eqb n 7) (RuleRefused TooHeavy) (pick (eqb n 22) (NoLetter p) TooManyLetters)))))))
+refusalOf n p = pick (ltb n 8) (RuleRefused (named n p)) (pick (eqb n 22) (NoLetter p) TooManyLetters)
 
 abbrev meant : Verdict → JudgeAnswer
 meant (judged b k) = Judged b k
 meant (refused n p) = refusalOf n p
 
 meant-refusal : (x : Refusal) → refusalOf (number x) (place x) ≡ RuleRefused x
-meant-refusal TooLong = refl
-meant-refusal (Ended p) = refl
-meant-refusal (UnknownKind p) = refl
-meant-refusal (WrongSort p) = refl
-meant-refusal (NoProposition p) = refl
-meant-refusal (Leftover p) = refl
-meant-refusal TooHeavy = refl
+meant-refusal x = rw (of-a-rule x) (ap RuleRefused (named-told x))
 
 meant-told : (a : JudgeAnswer) → meant (told a) ≡ a
 meant-told (Judged b k) = refl

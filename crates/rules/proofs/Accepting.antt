@@ -45,6 +45,9 @@ module _ (s : List ℕ) where
   pub accepted-answer : (r : Rule) → AcceptedAs s r → answer s ≡ accepted (knownOf r)
   accepted-answer r a = rw (le-ltb _ _ (a .short), a .spelt, le-leb _ _ (a .light))
 
+  pub not-refused : (n p : ℕ) (r : Rule) → answer s ≡ refused n p → AcceptedAs s r → ⊥
+  not-refused n p r q a = no-refusal n p (knownOf r) (sym q ∙ accepted-answer r a)
+
   pub accepted-once : (r r′ : Rule) → AcceptedAs s r → AcceptedAs s r′ → r ≡ r′
   accepted-once r r′ a b = let q : good r ≡ good r′ = sym (a .spelt) ∙ b .spelt in cc
 

@@ -4,7 +4,7 @@ use native.Mathlib.Omega.{arith}
 use mathlib.Core.Path.{_≡_, refl, ap}
 use mathlib.Core.Logic.{_⊎_, inl, inr, ⊎-map, _≢_}
 use mathlib.Core.Bool.{Bool, true, false, _&&_, _||_}
-use mathlib.Core.List.{List, [], _∷_, _++_}
+use mathlib.Core.List.{List, [], _∷_, _++_, cons≢nil}
 use lib.ListN.{length, length-append}
 use lib.Dec.{T}
 use Rattle.bits.proofs.Truths.{and-T, or-T}
@@ -13,9 +13,6 @@ use Rattle.rules.specs.declared.kinds.Repeat.the-variants.{Star, Plus}
 use Rattle.rules.specs.Definition1.{Rule, letter, empty, two, again}
 use Rattle.rules.specs.Definition2.{holds, Sat, OneLetter, Parts, Overlaps, Begins, Repeats, none, more}
 use Rattle.rules.proofs.Maps.{map-parts, map-overlaps, map-repeats, map-begins}
-
-cons≢nil : {x : ℕ} {w : List ℕ} → (x ∷ w) ≢ []
-cons≢nil e = let z : _≡_ {A = ℕ} 0 1 = cc in omega arith
 
 -- Q is asked of every rest, P of every beginning
 abbrev pub partsB : (List ℕ → Bool) → (List ℕ → Bool) → List ℕ → Bool

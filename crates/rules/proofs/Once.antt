@@ -1,8 +1,10 @@
--- No second answer fits the promise of `read_rule`: `told` loses nothing. Assumes nothing.
+-- No second answer fits the promise of `read_rule`: `told` loses nothing. The calls above, which hand a rule's refusal on, use the same.
+-- Assumes nothing.
 use Prim.Native.Nat.{ℕ}
 use mathlib.Core.Path.{_≡_, refl, sym, ap, _∙_}
+use mathlib.Core.Bool.{true}
 use mathlib.Core.List.{List}
-use lib.Dec.{eqb}
+use lib.Dec.{eqb, ltb}
 use Rattle.rules.specs.declared.Refusal.{Refusal}
 use Rattle.rules.specs.declared.Refusal.the-variants.{TooLong, Ended, UnknownKind, WrongSort, NoProposition, Leftover, TooHeavy}
 use Rattle.rules.specs.declared.RuleAnswer.{RuleAnswer}
@@ -11,8 +13,8 @@ use Rattle.rules.specs.Kinds.{pick}
 use Rattle.rules.specs.Refusals.{number, place}
 use Rattle.rules.specs.Answer.{Result, accepted, refused, answer, told}
 
--- the refusal of a number and a place
-abbrev named : ℕ → ℕ → Refusal
+-- the rule's refusal of a number and a place
+abbrev pub named : ℕ → ℕ → Refusal
 named n p =
     pick (eqb n 1) TooLong
     (pick (eqb n 2) (Ended p)
@@ -23,7 +25,7 @@ abbrev meant : Result → RuleAnswer
 meant (accepted k) = Accepted k
 meant (refused n p) = Refused (named n p)
 
-named-told : (x : Refusal) → named (number x) (place x) ≡ x
+pub named-told : (x : Refusal) → named (number x) (place x) ≡ x
 named-told TooLong = refl
 named-told (Ended p) = refl
 named-told (UnknownKind p) = refl
@@ -31,6 +33,16 @@ named-told (WrongSort p) = refl
 named-told (NoProposition p) = refl
 named-told (Leftover p) = refl
 named-told TooHeavy = refl
+
+-- the numbers of a rule's refusals are those below 8
+pub of-a-rule : (x : Refusal) → ltb (number x) 8 ≡ true
+of-a-rule TooLong = refl
+of-a-rule (Ended p) = refl
+of-a-rule (UnknownKind p) = refl
+of-a-rule (WrongSort p) = refl
+of-a-rule (NoProposition p) = refl
+of-a-rule (Leftover p) = refl
+of-a-rule TooHeavy = refl
 
 meant-told : (a : RuleAnswer) → meant (told a) ≡ a
 meant-told (Accepted k) = refl

@@ -1,8 +1,8 @@
 -- Laws for the walk that fills a table: how the operands' squares and the leaves' stores make the rule's. Assumes nothing.
 use Prim.Native.Nat.{ℕ, _+_, _*_, _-_, _<_, _≤_}
 use native.Mathlib.Omega.{arith}
-use mathlib.Core.Path.{_≡_, refl, sym, ap, ap₂, _∙_}
-use mathlib.Core.Logic.{_⊎_, inl, inr}
+use mathlib.Core.Path.{_≡_, sym, ap₂, _∙_}
+use mathlib.Core.Logic.{inl, inr}
 use mathlib.Core.List.{List}
 use lib.ListN.{length, getD}
 use Rattle.bits.specs.Word.{all}
@@ -12,19 +12,19 @@ use Rattle.rules.specs.declared.kinds.Repeat.{Repeat}
 use Rattle.rules.specs.declared.kinds.Repeat.the-variants.{Star, Plus}
 use Rattle.rules.specs.declared.kinds.RuleKind.the-variants.{Letter, Empty, Two, Again}
 use Rattle.rules.specs.declared.kinds.Kind.the-variants.{OfRule}
-use Rattle.rules.specs.Definition1.{Rule, letter, empty, two, again}
+use Rattle.rules.specs.Definition1.{Rule, two, again}
 use Rattle.rules.specs.Kinds.{kindOf}
 use Rattle.rules.specs.Places.{RuleAt}
 use Rattle.rules.specs.Walks.{LabelAs}
-use Rattle.rules.specs.Weight.{weightOf, pairWeight, weightLimit}
+use Rattle.rules.specs.Weight.{weightOf}
 use Rattle.rules.proofs.Scan.{rule-ends}
 use Rattle.rules.proofs.Unique.{rule-of, rule-once}
 use Rattle.tables.specs.declared.shape.Shape.{Shape}
 use Rattle.tables.specs.declared.fill.Operands.{Operands}
-use Rattle.tables.specs.Cells.{In, Put, Clean, linked, overlapped, chosen, paired}
-use Rattle.tables.specs.Block.{FinalsAt, Built, anyRule, withinRule}
+use Rattle.tables.specs.Cells.{Put, Clean, linked, overlapped, chosen, paired}
+use Rattle.tables.specs.Block.{FinalsAt, Built, anyRule}
 use Rattle.tables.specs.Sets.{Raised}
-use Rattle.tables.specs.Shapes.{Fits, ShapeOf, ShapedAs}
+use Rattle.tables.specs.Shapes.{Fits, ShapedAs}
 use Rattle.tables.specs.Building.{Ready, Stand, BuiltAt, BuiltAgain, BuiltPair, BuiltLeft, BuiltRight}
 use Rattle.tables.proofs.Serving.{weight-pos}
 use Rattle.tables.proofs.FinalSets.{raise-finals}
@@ -74,10 +74,10 @@ module _ (s : List ℕ) (o : Operands) (g : Stand s o) where
   en : o .b .weight ≡ weightOf b
   en = g .second-shape .weighs
 
-  pub some-a : 0 < o .a .weight
+  some-a : 0 < o .a .weight
   some-a = omega (arith, em, weight-pos a)
 
-  pub some-b : 0 < o .b .weight
+  some-b : 0 < o .b .weight
   some-b = omega (arith, en, weight-pos b)
 
   pub fits-a : (base : ℕ) → base + o .a .weight ≤ 64 → Fits s (o .first) base
@@ -86,8 +86,9 @@ module _ (s : List ℕ) (o : Operands) (g : Stand s o) where
   pub fits-b : (base : ℕ) → base + o .b .weight ≤ 64 → Fits s (o .a .end) base
   fits-b base l = record { rule = b; past = g .past; stands = g .second-stands; room = omega (arith, en) }
 
-  pub grows : o .first < o .a .end
-  grows = omega (arith, rule-ends s (g .first-stands))
+  -- the second operand stands further on, and both have a state
+  pub sizes : (o .first < o .a .end) × (0 < o .a .weight) × (0 < o .b .weight)
+  sizes = (rule-ends s (g .first-stands) .0, some-a, some-b)
 
   -- at most one rule stands at a place, so what holds of these operands holds of any
   pair-all : (p : Pair) (t t′ : List ℕ) (base : ℕ) → Built t t′ base (two p a b) → BuiltPair p s o t t′ base

@@ -16,7 +16,7 @@ use Rattle.rules.specs.Weight.{weightOf}
 use Rattle.tables.specs.Auto.{Auto}
 use Rattle.tables.specs.Build.{auto, UpF, ThenFinal, EitherFinal, BothFinal}
 use Rattle.tables.specs.Block.{FinalsAt, withinRule}
-use Rattle.tables.proofs.Truth.{and-T, or-T, true-T, false-no}
+use Rattle.bits.proofs.Truths.{and-T, or-T, true-T, false-no}
 use Rattle.tables.proofs.Labels.{Has, has-none, has-or}
 use Rattle.tables.proofs.Boths.{pair-fst, pair-snd, pair-lt}
 use Rattle.tables.proofs.Language.{size-weight}

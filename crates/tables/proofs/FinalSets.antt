@@ -2,20 +2,19 @@
 use Prim.Native.Nat.{ℕ, _+_, _*_, _-_, _/_, _%_, _^_, _<_, _≤_}
 use native.Mathlib.Omega.{arith}
 use native.Mathlib.Nat.{le-mul-of-pos-right, mul-comm, sub-zero, zero-add}
-use mathlib.Core.Path.{_≡_, refl, sym, ap, ap₂, _∙_}
-use mathlib.Core.Logic.{_⊎_, inl, inr, _↔_}
-use mathlib.Core.Bool.{Bool, true, false, _&&_}
+use mathlib.Core.Path.{_≡_, refl, sym, ap, _∙_}
+use mathlib.Core.Logic.{_⊎_, inl, inr}
+use mathlib.Core.Bool.{true, false, _&&_}
 use lib.Dec.{T}
 use Rattle.bits.specs.Word.{bit, word, insert}
 use Rattle.bits.proofs.Laws.{bit-shl, bit-shl-low, bit-mod, bit-word, bit-above, word-lt, word-step, word-skip, lt-or-ge}
 use Rattle.rules.specs.declared.kinds.Pair.the-variants.{Both}
 use Rattle.rules.specs.Definition1.{Rule, Formula, yea, letter, empty, two}
 use Rattle.rules.specs.Weight.{weightOf}
-use Rattle.tables.specs.Auto.{Auto}
 use Rattle.tables.specs.Build.{auto, UpF}
 use Rattle.tables.specs.Block.{FinalsAt, anyRule}
 use Rattle.tables.specs.Sets.{Raised, pairFinal}
-use Rattle.tables.proofs.Truth.{false-no}
+use Rattle.bits.proofs.Truths.{false-no}
 use Rattle.tables.proofs.Serving.{weight-pos}
 use Rattle.tables.proofs.Places.{final-at}
 use Rattle.tables.proofs.Ends.{empty-finals, letter-finals, star-finals, both-finals}

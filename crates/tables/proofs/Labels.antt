@@ -14,7 +14,7 @@ use Rattle.bits.proofs.Laws.{bit-or, bit-and, bit-zero}
 use Rattle.rules.specs.Kinds.{pick}
 use Rattle.tables.specs.Table.{cell}
 use Rattle.tables.specs.Cells.{linked, overlapped, chosen, paired}
-use Rattle.tables.proofs.Truth.{and-T, or-T}
+use Rattle.bits.proofs.Truths.{and-T, or-T}
 
 -- the letter x is in the word w
 abbrev pub Has : ℕ → ℕ → Type 0

@@ -5,12 +5,13 @@ use native.Mathlib.Omega.{arith}
 use mathlib.Core.Path.{_≡_, refl, sym, ap₂, _∙_}
 use mathlib.Core.Logic.{_⊎_, ⊎-map, _↔_}
 use mathlib.Core.Bool.{Bool}
-use mathlib.Core.List.{List, [], _∷_, _++_}
+use mathlib.Core.List.{List, [], _∷_, _++_, cons≢nil}
 use Rattle.rules.specs.declared.kinds.Pair.the-variants.{Then, Overlap, Either, Within, Both}
 use Rattle.rules.specs.declared.kinds.Repeat.the-variants.{Star, Plus}
 use Rattle.rules.specs.Definition1.{Rule, letter, empty, two, again, yea}
 use Rattle.rules.specs.Definition2.{holds, Sat, OneLetter, Parts, Overlaps, Begins, Repeats, none, more}
 use Rattle.rules.specs.Weight.{weightOf}
+use Rattle.rules.proofs.Maps.{map-parts, map-overlaps, map-repeats, map-begins}
 use Rattle.tables.specs.Auto.{Auto, Takes}
 use Rattle.tables.specs.Build.{auto, emptyA, letterA, the-label, thenA, bothA, anyA, withinA}
 use Rattle.tables.proofs.Lang.{Acc, takes-acc, Good, good-empty, good-letter}
@@ -18,23 +19,7 @@ use Rattle.tables.proofs.Thens.{good-then, then-lang}
 use Rattle.tables.proofs.Overlaps.{good-overlap, overlap-lang}
 use Rattle.tables.proofs.Eithers.{good-either, either-lang}
 use Rattle.tables.proofs.Boths.{good-both, both-lang}
-use Rattle.tables.proofs.Repetitions.{good-plus, plus-lang, good-star, star-lang, cons≢nil}
-
--- the operators of Definition 2 respect equal languages
-module _ (P P' Q Q' : List ℕ → Type 0) (f : (w : List ℕ) → P w → P' w) (g : (w : List ℕ) → Q w → Q' w) where
-  map-parts : (w : List ℕ) → Parts P Q w → Parts P' Q' w
-  map-parts w h = record { w1 = h .w1; w2 = h .w2; whole = h .whole; first = f (h .w1) (h .first); second = g (h .w2) (h .second) }
-
-  map-overlaps : (w : List ℕ) → Overlaps P Q w → Overlaps P' Q' w
-  map-overlaps w h = record { w1 = h .w1; x = h .x; w2 = h .w2; whole = h .whole; first = f (h .w1 ++ (h .x ∷ [])) (h .first); second = g (h .x ∷ h .w2) (h .second) }
-
-module _ (P P' : List ℕ → Type 0) (f : (w : List ℕ) → P w → P' w) where
-  map-repeats : (w : List ℕ) → Repeats P w → Repeats P' w
-  map-repeats w none = none
-  map-repeats w (more u v e n a r) = more u v e n (f u a) (map-repeats v r)
-
-  map-begins : (w : List ℕ) → Begins P w → Begins P' w
-  map-begins w h = record { w1 = h .w1; w2 = h .w2; whole = h .whole; first = f (h .w1) (h .first) }
+use Rattle.tables.proofs.Repetitions.{good-plus, plus-lang, good-star, star-lang}
 
 empty-lang : (w : List ℕ) → Acc emptyA 0 w ↔ (w ≡ [])
 empty-lang [] = (λ a. refl, λ e. refl)

@@ -1,4 +1,3 @@
-pub mod Truth
 pub mod Lang
 pub mod Thens
 pub mod Overlaps

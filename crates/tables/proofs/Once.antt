@@ -1,37 +1,29 @@
 -- No second answer and no second slice fit the promise of `build`; and what it leaves in the slice serves the rule. Assumes nothing.
-use Prim.Native.Nat.{ℕ, _+_, _*_, _/_, _%_, _^_, _<_, _≤_}
+use Prim.Native.Nat.{ℕ, _+_, _*_, _/_, _%_, _^_, _<_}
 use native.Mathlib.Omega.{arith}
 use native.Mathlib.Decide.{decLt}
 use mathlib.Core.Path.{_≡_, refl, sym, ap, ap₂, subst, _∙_}
 use mathlib.Core.List.{List}
-use lib.Dec.{eqb}
-use lib.ListN.{length, getD}
+use lib.Dec.{ltb}
+use lib.ListN.{getD}
 use lib.Seq.{ext-getD}
 use Rattle.rules.specs.declared.Known.{Known}
 use Rattle.rules.specs.declared.Refusal.{Refusal}
-use Rattle.rules.specs.declared.Refusal.the-variants.{TooLong, Ended, UnknownKind, WrongSort, NoProposition, Leftover, TooHeavy}
 use Rattle.rules.specs.Definition1.{Rule}
 use Rattle.rules.specs.Kinds.{pick}
 use Rattle.rules.specs.Refusals.{number, place}
-use Rattle.rules.specs.Weight.{weightOf}
-use Rattle.rules.specs.Answer as rules
 use Rattle.rules.specs.Answer.{answer, AcceptedAs, knownOf}
-use Rattle.rules.proofs.Accepting.{accepted-answer, accepted-once}
+use Rattle.rules.proofs.Accepting.{not-refused, accepted-once}
+use Rattle.rules.proofs.Once.{named, named-told, of-a-rule}
 use Rattle.tables.specs.declared.TableAnswer.{TableAnswer}
 use Rattle.tables.specs.declared.TableAnswer.the-variants.{Tabled, RuleRefused, ShortTable}
-use Rattle.tables.specs.Table.{cell, tableOf}
+use Rattle.tables.specs.Table.{tableOf}
 use Rattle.tables.specs.Promise.{Serves}
 use Rattle.tables.specs.IsTable.{IsTable, Words}
 use Rattle.tables.specs.Answer.{Result, tabled, refused, told, SamePast, Right, rule-refused, short-table, the-table}
 use Rattle.tables.proofs.Serving.{one-table, one-finals, serves}
 
 module _ (s t : List ℕ) where
-  not-both : (n p : ℕ) (r : Rule) → answer s ≡ rules.refused n p → AcceptedAs s r → ⊥
-  not-both n p r q a =
-      let e : answer s ≡ rules.accepted (knownOf r) = accepted-answer s r a in
-      let z : _≡_ {A = ℕ} 0 1 = cc in
-      omega arith
-
   -- two slices with the rule's table in front and t's entries past it
   module _ (r : Rule) (f g : ℕ) (u v : List ℕ) (i : IsTable r u f) (j : IsTable r v g) (hu : Words u) (hv : Words v) (p : SamePast t u) (q : SamePast t v) where
     entry : (k : ℕ) → Dec (k < 4096) → getD u k 0 ≡ getD v k 0
@@ -52,37 +44,25 @@ module _ (s t : List ℕ) where
 
     one-result : {x y : Result} → Right s t u x → Right s t v y → (x ≡ y) × (u ≡ v)
     one-result (rule-refused q e) (rule-refused q′ e′) = (cc, e ∙ sym e′)
-    one-result (rule-refused q e) (short-table a l e′) = absurd (not-both _ _ _ q a)
-    one-result (rule-refused q e) (the-table a l lf i p) = absurd (not-both _ _ _ q a)
-    one-result (short-table a l e) (rule-refused q e′) = absurd (not-both _ _ _ q a)
+    one-result (rule-refused q e) (short-table a l e′) = absurd (not-refused s _ _ _ q a)
+    one-result (rule-refused q e) (the-table a l lf i p) = absurd (not-refused s _ _ _ q a)
+    one-result (short-table a l e) (rule-refused q e′) = absurd (not-refused s _ _ _ q a)
     one-result (short-table a l e) (short-table a′ l′ e′) = (refl, e ∙ sym e′)
     one-result (short-table a l e) (the-table a′ l′ lf i p) = absurd (omega arith)
-    one-result (the-table a l lf i p) (rule-refused q e) = absurd (not-both _ _ _ q a)
+    one-result (the-table a l lf i p) (rule-refused q e) = absurd (not-refused s _ _ _ q a)
     one-result (the-table a l lf i p) (short-table a′ l′ e) = absurd (omega arith)
     one-result (the-table a l lf i p) (the-table a′ l′ lg j q) = same-table _ _ _ _ (accepted-once s _ _ a a′) lf lg i j p q
 
 -- the answer that a result tells of: `told` loses nothing
 abbrev refusalOf : ℕ → ℕ → TableAnswer
-refusalOf n p =
-    pick (eqb n 1) (RuleRefused TooLong)
-    (pick (eqb n 2) (RuleRefused (Ended p))
-    (pick (eqb n 3) (RuleRefused (UnknownKind p))
-    (pick (eqb n 4) (RuleRefused (WrongSort p))
-    (pick (eqb n 5) (RuleRefused (NoProposition p))
-    (pick (eqb n 6) (RuleRefused (Leftover p)) (pick (eqb n 7) (RuleRefused TooHeavy) ShortTable))))))
+refusalOf n p = pick (ltb n 8) (RuleRefused (named n p)) ShortTable
 
 abbrev meant : Result → TableAnswer
 meant (tabled k f) = Tabled k f
 meant (refused n p) = refusalOf n p
 
 meant-refusal : (x : Refusal) → refusalOf (number x) (place x) ≡ RuleRefused x
-meant-refusal TooLong = refl
-meant-refusal (Ended p) = refl
-meant-refusal (UnknownKind p) = refl
-meant-refusal (WrongSort p) = refl
-meant-refusal (NoProposition p) = refl
-meant-refusal (Leftover p) = refl
-meant-refusal TooHeavy = refl
+meant-refusal x = rw (of-a-rule x) (ap RuleRefused (named-told x))
 
 meant-told : (a : TableAnswer) → meant (told a) ≡ a
 meant-told (Tabled k f) = refl

@@ -1,15 +1,14 @@
 -- Laws of `overlapped` and `chosen`.
 use mathlib.Core.Path.{_≡_, refl, sym, ap, ap₂, _∙_}
 use mathlib.Core.List.{List}
-use mathlib.Core.Bool.{Bool, true, false}
-use Prim.Native.Nat.{ℕ, zero, suc, _+_, _-_, _*_, _<_, _≤_}
+use mathlib.Core.Bool.{true, false}
+use Prim.Native.Nat.{ℕ, zero, suc, _+_, _-_, _<_, _≤_}
 use native.Mathlib.Omega.{arith}
-use lib.ListN.{getD, length}
 use lib.Bits.{bitOr, bitAnd}
 use Rattle.bits.specs.Word.{bit}
 use Rattle.rules.specs.Kinds.{pick}
 use Rattle.tables.specs.Table.{cell}
-use Rattle.tables.specs.Cells.{Put, In, overlapped, overlappedBy, chosen}
+use Rattle.tables.specs.Cells.{Put, overlapped, overlappedBy, chosen}
 use Rattle.tables.proofs.Puts.{put-over, put-down, put-right, put-as, put-keep}
 use borrow.Author.Tests.{lt-ltb, le-ltb}
 

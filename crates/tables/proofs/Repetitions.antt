@@ -3,14 +3,11 @@ use Prim.Native.Nat.{ℕ, _<_}
 use native.Mathlib.Omega.{arith}
 use mathlib.Core.Path.{_≡_, refl, ap}
 use mathlib.Core.Logic.{_⊎_, inl, inr, _≢_, _↔_}
-use mathlib.Core.List.{List, [], _∷_, _++_}
+use mathlib.Core.List.{List, [], _∷_, _++_, cons≢nil}
 use Rattle.rules.specs.Definition2.{Parts, Repeats, none, more}
 use Rattle.tables.specs.Auto.{Auto}
 use Rattle.tables.specs.Build.{PlusStep, plusA, optA, starA}
 use Rattle.tables.proofs.Lang.{Acc, Edge, Good}
-
-pub cons≢nil : {x : ℕ} {w : List ℕ} → (x ∷ w) ≢ []
-cons≢nil e = let z : _≡_ {A = ℕ} 0 1 = cc in omega arith
 
 -- 0 is final too, and nothing enters it: the empty sequence is accepted too, and no other
 module _ (C : Auto) (gC : Good C) where

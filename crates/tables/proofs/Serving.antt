@@ -17,7 +17,7 @@ use Rattle.tables.specs.Build.{auto}
 use Rattle.tables.specs.Table.{Table, cell, tableOf, Goes, Accepts}
 use Rattle.tables.specs.IsTable.{IsTable, Words}
 use Rattle.tables.specs.Promise.{Letters, Serves}
-use Rattle.tables.proofs.Truth.{and-T, iff-bool, no-false, false-no}
+use Rattle.bits.proofs.Truths.{and-T, same-truth, no-false, false-no}
 use Rattle.tables.proofs.Lang.{Acc, Edge, Good}
 use Rattle.tables.proofs.Language.{good, sound, complete, size-weight}
 
@@ -53,12 +53,12 @@ module _ (r : Rule) (t u : List ℕ) (f g : ℕ) (is : IsTable r t f) (js : IsTa
   pub one-table : Words t → Words u → (p q : ℕ) → p < 64 → q < 64 → cell t p q ≡ cell u p q
   one-table ht hu p q hp hq =
       ext 64 (cell t p q) (cell u p q) (ht (64 * p + q)) (hu (64 * p + q))
-      (λ x h. iff-bool (bit (cell t p q) x) (bit (cell u p q) x)
+      (λ x h. same-truth (bit (cell t p q) x) (bit (cell u p q) x)
       (λ a. js .label p q x hp hq h .1 (is .label p q x hp hq h .0 a)) (λ a. is .label p q x hp hq h .1 (js .label p q x hp hq h .0 a)))
 
   pub one-finals : f < 2 ^ 64 → g < 2 ^ 64 → f ≡ g
   one-finals hf hg =
-      ext 64 f g hf hg (λ q h. iff-bool (bit f q) (bit g q) (λ a. js .ends q h .1 (is .ends q h .0 a)) (λ a. is .ends q h .1 (js .ends q h .0 a)))
+      ext 64 f g hf hg (λ q h. same-truth (bit f q) (bit g q) (λ a. js .ends q h .1 (is .ends q h .0 a)) (λ a. is .ends q h .1 (js .ends q h .0 a)))
 
 -- a table's edge and final state, taken apart
 module _ (t : List ℕ) (n f : ℕ) where

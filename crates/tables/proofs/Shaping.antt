@@ -1,21 +1,21 @@
 -- Laws for the walks of the builder: what the kind byte tells of a rule that stands at a place and has room. Assumes nothing.
-use Prim.Native.Nat.{ℕ, _+_, _*_, _<_, _≤_}
+use Prim.Native.Nat.{ℕ, _+_, _<_, _≤_}
 use native.Mathlib.Omega.{arith}
 use native.Mathlib.Nat.{le-mul-of-pos-right, mul-comm}
-use mathlib.Core.Path.{_≡_, refl, sym, ap, ap₂, subst, _∙_}
+use mathlib.Core.Path.{_≡_, refl, subst}
 use mathlib.Core.List.{List}
-use lib.ListN.{length, getD}
+use lib.ListN.{getD}
 use Rattle.rules.specs.declared.kinds.Pair.{Pair}
 use Rattle.rules.specs.declared.kinds.Pair.the-variants.{Then, Overlap, Either, Within, Both}
 use Rattle.rules.specs.declared.kinds.Repeat.{Repeat}
 use Rattle.rules.specs.declared.kinds.RuleKind.the-variants.{Letter, Empty, Two, Again}
-use Rattle.rules.specs.declared.kinds.Kind.the-variants.{OfFormula, OfRule, Unknown}
-use Rattle.rules.specs.Definition1.{Rule, letter, empty, two, again}
+use Rattle.rules.specs.declared.kinds.Kind.the-variants.{OfRule}
+use Rattle.rules.specs.Definition1.{Rule, two, again}
 use Rattle.rules.specs.Kinds.{kindOf}
-use Rattle.rules.specs.Places.{RuleAt, GoodRule, FormulaEnds}
+use Rattle.rules.specs.Places.{GoodRule, FormulaEnds}
 use Rattle.rules.specs.Weight.{weightOf, pairWeight, weightLimit}
 use Rattle.rules.proofs.Scan.{rule-ends}
-use Rattle.rules.proofs.Unique.{rule-of, rule-inside, rule-once}
+use Rattle.rules.proofs.Unique.{rule-of}
 use Rattle.tables.specs.declared.shape.Shape.{Shape}
 use Rattle.tables.specs.Shapes.{Fits, ShapeOf, ShapedAs}
 use Rattle.tables.proofs.Serving.{weight-pos}

@@ -14,7 +14,7 @@ use Rattle.tables.specs.Table.{cell}
 use Rattle.tables.specs.Build.{auto, LetterStep, the-label, letterA, PlusStep}
 use Rattle.tables.specs.Cells.{In, Put, Clean}
 use Rattle.tables.specs.Block.{Built, anyRule}
-use Rattle.tables.proofs.Truth.{true-T}
+use Rattle.bits.proofs.Truths.{true-T}
 use Rattle.tables.proofs.Labels.{Has}
 use Rattle.tables.proofs.Places.{by-cell, by-none}
 

@@ -11,16 +11,15 @@ use Rattle.rules.specs.declared.RuleAnswer.the-variants.{Accepted, Refused}
 use Rattle.rules.specs.Definition1.{Rule}
 use Rattle.rules.specs.Refusals.{number, place}
 use Rattle.rules.specs.Answer as rules
-use Rattle.rules.specs.Answer.{answer, accepted, AcceptedAs, knownOf}
+use Rattle.rules.specs.Answer.{answer, AcceptedAs, knownOf}
 use Rattle.rules.specs.Weight.{weightOf}
 use Rattle.rules.proofs.Accepting.{accepted-rule, accepted-stands}
 use Rattle.tables.specs.declared.shape.Shape.{Shape}
-use Rattle.tables.specs.Table.{cell}
 use Rattle.tables.specs.Cells.{Put}
 use Rattle.tables.specs.Block.{Built}
 use Rattle.tables.specs.Shapes.{Fits, ShapedAs}
 use Rattle.tables.specs.Building.{Ready, BuiltAt}
-use Rattle.tables.specs.Answer.{SamePast, Right, refused, tabled, rule-refused, short-table, the-table}
+use Rattle.tables.specs.Answer.{Right, refused, tabled, rule-refused, short-table, the-table}
 use Rattle.tables.proofs.Wholes.{is-table}
 
 -- a cleared table is ready

@@ -8,13 +8,13 @@ use Rattle.rules.specs.declared.kinds.Repeat.{Repeat}
 use Rattle.rules.specs.Definition1.{Rule, two, again}
 use Rattle.rules.specs.Places.{RuleAt}
 use Rattle.tables.specs.declared.fill.Operands.{Operands}
-use Rattle.tables.specs.Cells.{Clean}
+use Rattle.tables.specs.Cells.{tableEntries, Clean}
 use Rattle.tables.specs.Block.{Built, anyRule}
 use Rattle.tables.specs.Shapes.{ShapeOf}
 
 -- the slice is long enough for a table, and has no label from base on
 pub record Ready (t : List ℕ) (base : ℕ) : Type 0 where
-  pub long : 4096 ≤ length t
+  pub long : tableEntries ≤ length t
   pub clean : Clean t base
 
 -- two rules stand one after the other, and these are their places and shapes

@@ -1,7 +1,7 @@
 -- What a store in a table leaves behind: a rectangle with new labels, and all else as it was. Assumes nothing: these are definitions.
 use mathlib.Core.Path.{_≡_}
 use mathlib.Core.List.{List}
-use Prim.Native.Nat.{ℕ, suc, zero, _+_, _-_, _*_, _/_, _%_, _<_, _≤_}
+use Prim.Native.Nat.{ℕ, suc, zero, _+_, _-_, _/_, _%_, _<_, _≤_}
 use lib.Bits.{bitOr, bitAnd}
 use lib.Dec.{ltb}
 use Rattle.bits.specs.Word.{bit}

@@ -2,12 +2,11 @@
 use Prim.Native.Nat.{ℕ, _+_, _≤_}
 use mathlib.Core.Path.{_≡_}
 use mathlib.Core.List.{List}
-use Rattle.rules.specs.declared.kinds.Pair.{Pair}
-use Rattle.rules.specs.Definition1.{Rule, two}
+use Rattle.rules.specs.Definition1.{Rule}
 use Rattle.rules.specs.Places.{RuleAt}
-use Rattle.rules.specs.Weight.{weightOf, pairWeight, weightLimit}
+use Rattle.rules.specs.Weight.{weightOf, weightLimit}
 use Rattle.tables.specs.declared.shape.Shape.{Shape}
-use Rattle.tables.specs.Block.{FinalsAt, Built}
+use Rattle.tables.specs.Block.{FinalsAt}
 
 -- a rule stands at the place, and its table has room from base on
 pub record Fits (s : List ℕ) (at base : ℕ) : Type 0 where

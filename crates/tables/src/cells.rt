@@ -3,20 +3,25 @@ ghost use mathlib.Core.Path.{_≡_};
 ghost use Prim.Native.Nat.{_+_, _<_, _≤_};
 ghost use lib.ListN.{length};
 ghost use Rattle.tables.specs.Table.{cell};
-ghost use Rattle.tables.specs.Cells.{Put};
+ghost use Rattle.tables.specs.Cells.{tableEntries, Put};
+
+// The most states of a table, and the entries that it takes: a row of labels for each state.
+pub const STATES: usize = 64;
+
+pub const TABLE_ENTRIES: usize = 4096;
 
 // The label from p to q.
 pub fn get(t: &[u64], p: usize, q: usize) -> u64
-    requires { ⌜ (4096 ≤ length (now t)) × (p < 64) × (q < 64) ⌝ }
+    requires { ⌜ (tableEntries ≤ length (now t)) × (p < 64) × (q < 64) ⌝ }
     ensures { λ r. ⌜ r ≡ cell (now (t .entry)) p q ⌝ }
 {
-    t[64 * p + q]
+    t[STATES * p + q]
 }
 
 // The label from p to q becomes v.
 pub fn put(t: &mut [u64], p: usize, q: usize, v: u64)
-    requires { ⌜ (4096 ≤ length (now t)) × (p < 64) × (q < 64) ⌝ }
+    requires { ⌜ (tableEntries ≤ length (now t)) × (p < 64) × (q < 64) ⌝ }
     ensures { λ _. ⌜ Put (now (t .entry)) (now (t .exit)) p (p + 1) q (q + 1) (λ r s. v) ⌝ }
 {
-    t[64 * p + q] = v;
+    t[STATES * p + q] = v;
 }

@@ -1,12 +1,12 @@
 // `|` over two blocks behind a new first state.
 ghost use Prim.Native.Nat.{_+_, _<_, _≤_};
 ghost use lib.ListN.{length};
-ghost use Rattle.tables.specs.Cells.{Put, chosen};
+ghost use Rattle.tables.specs.Cells.{tableEntries, Put, chosen};
 use crate::link::unite_row;
 
 // The new state at base gets what leaves the first states of the blocks at base + 1 and at b, which ends at hi.
 pub fn choice(t: &mut [u64], base: usize, b: usize, hi: usize)
-    requires { ⌜ (4096 ≤ length (now t)) × (base + 1 < b) × (b < hi) × (hi ≤ 64) ⌝ }
+    requires { ⌜ (tableEntries ≤ length (now t)) × (base + 1 < b) × (b < hi) × (hi ≤ 64) ⌝ }
     ensures { λ _. ⌜ Put (now (t .entry)) (now (t .exit)) base (base + 1) (base + 1) hi (chosen (now (t .entry)) base b) ⌝ }
 {
     unite_row(t, base, base + 1, b);

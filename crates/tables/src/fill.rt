@@ -144,7 +144,8 @@ fn right_at(rule: &[u8], t: &mut [u64], base: usize, o: Operands)
     product(t, base, m + 2, n);
 }
 
-// `&`, which is {a && {b;true[*]}} | {{a;true[*]} && b}. Each operand is built twice; as each `&` more than doubles the weight, no more than five nest.
+// `&`, which is {a && {b;true[*]}} | {{a;true[*]} && b}. Each operand is built twice. An `&` weighs 7 at least, one over it 31 and a third 127, so that no
+// more than two nest and nothing is built more than four times on that account.
 fn within_at(rule: &[u8], t: &mut [u64], base: usize, o: Operands)
     requires { ⌜ Stand (now rule) o ⌝ }
     requires { ⌜ base + (2 * (o .a .weight * o .b .weight) + 2 * o .a .weight + 2 * o .b .weight + 1) ≤ weightLimit ⌝ }

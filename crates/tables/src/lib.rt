@@ -15,11 +15,6 @@ mod finals; // sets of final states
 mod shape; // where a rule ends, its weight and its finals
 mod fill; // the labels of a rule, in place
 
-// A lent table has at least this many entries, and this many states.
-const TABLE_ENTRIES: usize = 4096;
-
-const STATES: usize = 64;
-
 // What building a table comes to.
 pub enum TableAnswer {
     // The slice begins with the table: what is known of the rule, and the set of its final states.
@@ -37,10 +32,10 @@ pub fn build(rule: &[u8], table: &mut [u64]) -> TableAnswer
     match rules::read_rule(rule) {
         RuleAnswer::Refused(x) => TableAnswer::RuleRefused(x),
         RuleAnswer::Accepted(known) => {
-            if table.len() < TABLE_ENTRIES {
+            if table.len() < cells::TABLE_ENTRIES {
                 return TableAnswer::ShortTable;
             }
-            clear::clear(table, 0, STATES);
+            clear::clear(table, 0, cells::STATES);
             fill::build_at(rule, 0, table, 0);
             let shape = shape::shape_at(rule, 0);
             TableAnswer::Tabled {

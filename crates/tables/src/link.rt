@@ -3,13 +3,13 @@ ghost use Prim.Native.Nat.{_+_, _<_, _≤_};
 ghost use lib.ListN.{length};
 ghost use lib.Bits.{bitOr};
 ghost use Rattle.tables.specs.Table.{cell};
-ghost use Rattle.tables.specs.Cells.{Put, linked};
+ghost use Rattle.tables.specs.Cells.{tableEntries, Put, linked};
 use crate::cells::get;
 use crate::cells::put;
 
 // Row p also gets what leaves src, the first state of a block that ends at hi.
 pub fn unite_row(t: &mut [u64], p: usize, src: usize, hi: usize)
-    requires { ⌜ (4096 ≤ length (now t)) × (p < 64) × (src < hi) × (hi ≤ 64) ⌝ }
+    requires { ⌜ (tableEntries ≤ length (now t)) × (p < 64) × (src < hi) × (hi ≤ 64) ⌝ }
     ensures { λ _. ⌜ Put (now (t .entry)) (now (t .exit)) p (p + 1) src hi (λ r s. bitOr (cell (now (t .entry)) r s) (cell (now (t .entry)) src s)) ⌝ }
 {
     let mut q = src;
@@ -22,7 +22,7 @@ pub fn unite_row(t: &mut [u64], p: usize, src: usize, hi: usize)
 
 // Row p also gets what leaves src, if p is final.
 fn link_row(t: &mut [u64], p: usize, src: usize, hi: usize, finals: u64)
-    requires { ⌜ (4096 ≤ length (now t)) × (p < 64) × (src < hi) × (hi ≤ 64) ⌝ }
+    requires { ⌜ (tableEntries ≤ length (now t)) × (p < 64) × (src < hi) × (hi ≤ 64) ⌝ }
     ensures { λ _. ⌜ Put (now (t .entry)) (now (t .exit)) p (p + 1) src hi (linked (now (t .entry)) src finals) ⌝ }
 {
     if bits::has(finals, p) {
@@ -32,7 +32,7 @@ fn link_row(t: &mut [u64], p: usize, src: usize, hi: usize, finals: u64)
 
 // Each final row of from to to also gets what leaves src, the first state of a block that ends at hi.
 pub fn link(t: &mut [u64], from: usize, to: usize, src: usize, hi: usize, finals: u64)
-    requires { ⌜ (4096 ≤ length (now t)) × (from ≤ to) × (to ≤ 64) × (src < hi) × (hi ≤ 64) ⌝ }
+    requires { ⌜ (tableEntries ≤ length (now t)) × (from ≤ to) × (to ≤ 64) × (src < hi) × (hi ≤ 64) ⌝ }
     ensures { λ _. ⌜ Put (now (t .entry)) (now (t .exit)) from to src hi (linked (now (t .entry)) src finals) ⌝ }
 {
     let mut p = from;

@@ -15,7 +15,8 @@ use Rattle.walkers.specs.declared.Walker.{Walker}
 use Rattle.walkers.specs.declared.Refusal.the-variants.{ShortTable, BadLetter}
 use Rattle.walkers.specs.declared.StepAnswer.the-variants.{Moved, Refused}
 use Rattle.walkers.specs.declared.Step.{Step}
-use Rattle.walkers.specs.Steps.{tableEntries, advanced, meets, Outcome, flag, refusal, Told, told, stepOf}
+use Rattle.tables.specs.Cells.{tableEntries}
+use Rattle.walkers.specs.Steps.{advanced, meets, Outcome, flag, refusal, Told, told, stepOf}
 use Rattle.walkers.specs.Walks.{followFrom, followOf}
 use Rattle.walkers.proofs.Sets.{advanced-lt, meets-test}
 

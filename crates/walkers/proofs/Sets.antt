@@ -13,7 +13,7 @@ use borrow.Author.Tests.{eq-eqb, ne-eqb}
 use Rattle.bits.specs.Word.{bit, word, any, remove}
 use Rattle.bits.proofs.Laws.{bit-or, bit-zero, bit-word, bit-remove, word-lt, word-unique, any-intro, any-elim, any-none, any-meet, and-true, or-false}
 use Rattle.tables.specs.Table.{cell}
-use Rattle.tables.proofs.Truth.{and-T, or-T, true-T, T-true, iff-bool}
+use Rattle.bits.proofs.Truths.{and-T, or-T, true-T, T-true, same-truth}
 use Rattle.walkers.specs.Steps.{rowOf, advanced, meets}
 
 -- some k below n, as a fact
@@ -52,7 +52,7 @@ module _ (n rest k : ℕ) (l : ℕ → Bool) (h : k < n) (on : bit rest k ≡ tr
           any-T n (λ p. bit rest p && l p) .1 (w .0, w .1, and-T (bit rest (w .0)) (l (w .0)) .1 (back (w .0) (w .1) (w .2), and-T (bit (remove n rest k) (w .0)) (l (w .0)) .0 (w .2) .1))
 
   pub any-take : any n (λ p. bit rest p && l p) ≡ l k || any n left
-  any-take = iff-bool (any n (λ p. bit rest p && l p)) (l k || any n left) take-out take-in
+  any-take = same-truth (any n (λ p. bit rest p && l p)) (l k || any n left) take-out take-in
 
 or-assoc : (a b c : Bool) → (a || b) || c ≡ a || (b || c)
 or-assoc true b c = refl

@@ -18,12 +18,13 @@ use Rattle.tables.specs.Auto.{Auto}
 use Rattle.tables.specs.Build.{auto}
 use Rattle.tables.specs.IsTable.{IsTable}
 use Rattle.tables.specs.Promise.{Letters}
-use Rattle.tables.proofs.Truth.{and-T, true-T, T-true, iff-bool}
+use Rattle.bits.proofs.Truths.{and-T, true-T, T-true, same-truth}
 use Rattle.tables.proofs.Lang.{Acc, Edge}
 use Rattle.tables.proofs.Language.{sound, complete}
 use Rattle.tables.proofs.Serving.{step-inside}
 use Rattle.walkers.specs.declared.Walker.{Walker}
-use Rattle.walkers.specs.Steps.{advanced, meets, startOf, Outcome, flag, refusal, stepOf, tableEntries}
+use Rattle.tables.specs.Cells.{tableEntries}
+use Rattle.walkers.specs.Steps.{advanced, meets, startOf, Outcome, flag, refusal, stepOf}
 use Rattle.walkers.specs.Walks.{followFrom, followOf, lastSays}
 use Rattle.walkers.proofs.Sets.{any-T}
 
@@ -50,7 +51,7 @@ has-0 = true-T (bit 1 0) (bit-low 1)
 -- before any step: whether 0 is final
 pub start-meets : (f : ℕ) → meets 1 f ≡ bit f 0
 unfolding meets
-start-meets f = iff-bool (any 64 (λ q. bit 1 q && bit f q)) (bit f 0) out back
+start-meets f = same-truth (any 64 (λ q. bit 1 q && bit f q)) (bit f 0) out back
   where
     out : T (any 64 (λ q. bit 1 q && bit f q)) → T (bit f 0)
     out s =

@@ -8,16 +8,13 @@ use Rattle.bits.specs.Word.{bit, word, any}
 use Rattle.rules.specs.Definition2.{letterCount}
 use Rattle.rules.specs.Kinds.{pick}
 use Rattle.tables.specs.Table.{cell}
+use Rattle.tables.specs.Cells.{tableEntries}
 use Rattle.walkers.specs.declared.Walker.{Walker}
 use Rattle.walkers.specs.declared.Refusal.{Refusal}
 use Rattle.walkers.specs.declared.Refusal.the-variants.{ShortTable, BadLetter}
 use Rattle.walkers.specs.declared.StepAnswer.{StepAnswer}
 use Rattle.walkers.specs.declared.StepAnswer.the-variants.{Moved, Refused}
 use Rattle.walkers.specs.declared.Step.{Step}
-
--- a lent table has at least this many entries
-abbrev pub tableEntries : ℕ
-tableEntries = 4096
 
 -- the states that p reaches under the letter x
 unfoldable pub rowOf : List ℕ → ℕ → ℕ → ℕ

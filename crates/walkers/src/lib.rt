@@ -5,7 +5,8 @@ ghost use lib.ListN.{length};
 ghost use Rattle.bits.specs.Word.{bit};
 ghost use Rattle.rules.specs.Definition2.{letterCount};
 ghost use Rattle.tables.specs.Table.{cell};
-ghost use Rattle.walkers.specs.Steps.{tableEntries, rowOf, advanced, startOf, told, stepOf};
+ghost use Rattle.tables.specs.Cells.{tableEntries};
+ghost use Rattle.walkers.specs.Steps.{rowOf, advanced, startOf, told, stepOf};
 ghost use Rattle.walkers.specs.Walks.{followOf, ending};
 
 // A lent table has at least this many entries, and this many in a row.

@@ -1,14 +1,9 @@
+-- `tables::build` meets its contract. Assumes nothing.
 use native.Mathlib.Omega.{arith}
 use Rattle.tables.proofs.Tabling.{right-refused, right-short, fits-whole, ready-whole, right-table}
 use borrow.Author.Needs.{needs}
 use Rattle.tables.proofs.build.Statement.{statement}
 use Rattle.tables.proofs.build.Tie as tie
-use Rattle.tables.proofs.build.Reads as reads
-use Rattle.tables.proofs.build.Lts as lts
-use Rattle.rules.proofs.read_rule.Reads as read-rule-reads
-use Rattle.tables.proofs.clear.clear.Reads as clear-reads
-use Rattle.tables.proofs.fill.build_at.Reads as build-at-reads
-use Rattle.tables.proofs.shape.shape_at.Reads as shape-at-reads
 
 read-rule-requires : tie.Need-read-rule-requires
 read-rule-requires c κs = search needs

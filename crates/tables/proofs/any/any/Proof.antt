@@ -1,13 +1,10 @@
+-- `tables::any::any` meets its contract. Assumes nothing.
 use mathlib.Core.Path.{refl}
 use native.Mathlib.Omega.{arith}
 use Rattle.tables.proofs.Puts.{put-as, put-down}
 use borrow.Author.Needs.{needs}
 use Rattle.tables.proofs.any.any.Statement.{statement}
 use Rattle.tables.proofs.any.any.Tie as tie
-use Rattle.tables.proofs.any.any.Reads as reads
-use Rattle.tables.proofs.any.any.Lts as lts
-use Rattle.bits.proofs.below.Reads as below-reads
-use Rattle.tables.proofs.cells.put.Reads as put-reads
 
 below-requires : tie.Need-below-requires
 below-requires c κs = search needs

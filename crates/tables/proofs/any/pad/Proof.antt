@@ -1,13 +1,10 @@
+-- `tables::any::pad` meets its contract. Assumes nothing.
 use mathlib.Core.Path.{refl}
 use native.Mathlib.Omega.{arith}
 use Rattle.tables.proofs.Building.{padded}
 use borrow.Author.Needs.{needs}
 use Rattle.tables.proofs.any.pad.Statement.{statement}
 use Rattle.tables.proofs.any.pad.Tie as tie
-use Rattle.tables.proofs.any.pad.Reads as reads
-use Rattle.tables.proofs.any.pad.Lts as lts
-use Rattle.tables.proofs.any.any.Reads as any-reads
-use Rattle.tables.proofs.link.link.Reads as link-reads
 
 add-mid : tie.Need-add-mid
 add-mid c = search needs

@@ -1,11 +1,9 @@
+-- `tables::choice::choice` meets its contract. Assumes nothing.
 use native.Mathlib.Omega.{arith}
 use Rattle.tables.proofs.Overlapping.{choice-both}
 use borrow.Author.Needs.{needs}
 use Rattle.tables.proofs.choice.choice.Statement.{statement}
 use Rattle.tables.proofs.choice.choice.Tie as tie
-use Rattle.tables.proofs.choice.choice.Reads as reads
-use Rattle.tables.proofs.choice.choice.Lts as lts
-use Rattle.tables.proofs.link.unite_row.Reads as unite-row-reads
 
 add-unite-row : tie.Need-add-unite-row
 add-unite-row c = search needs

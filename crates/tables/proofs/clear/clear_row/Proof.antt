@@ -1,18 +1,12 @@
 -- `clear::clear_row`: the columns from lo up to q are cleared.
-use mathlib.Core.Path.{_≡_, refl, sym, ap, ap₂, _∙_}
-use Prim.Native.Nat.{ℕ, _+_, _*_, _-_, _<_, _≤_}
+use mathlib.Core.Path.{_≡_, refl}
+use Prim.Native.Nat.{_+_, _-_, _≤_}
 use native.Mathlib.Omega.{arith}
 use lib.ListN.{length}
-use lib.Bits.{bitOr}
-use borrow.Author.Needs.{needs}
-use Rattle.tables.specs.Table.{cell}
 use Rattle.tables.specs.Cells.{Put}
 use Rattle.tables.proofs.Puts.{put-none, put-step, put-as}
 use Rattle.tables.proofs.clear.clear_row.Statement.{statement}
 use Rattle.tables.proofs.clear.clear_row.Tie as tie
-use Rattle.tables.proofs.clear.clear_row.Reads as reads
-use Rattle.tables.proofs.clear.clear_row.Lts as lts
-use Rattle.tables.proofs.cells.put.Reads as put-reads
 
 abbrev Inv-loop : tie.InvT-loop
 Inv-loop t₀ p lo hi q₀ t q = (lo ≤ q) × (q ≤ hi) × (length t ≡ length t₀) × Put t₀ t p (p + 1) lo q (λ r s. 0)

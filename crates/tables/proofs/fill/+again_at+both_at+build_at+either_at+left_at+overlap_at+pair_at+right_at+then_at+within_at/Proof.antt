@@ -2,7 +2,7 @@
 -- Assumes nothing.
 use borrow.Author.Needs.{needs}
 use Prim.Native.Nat.{ℕ, _+_, _*_, _<_, _≤_, _-_}
-use mathlib.Core.Path.{_≡_, refl, ap, ap₂, sym, _∙_}
+use mathlib.Core.Path.{_≡_, refl}
 use native.Mathlib.Omega.{arith}
 use lib.ListN.{length, getD}
 use Rattle.rules.specs.declared.kinds.RuleKind.the-variants.{Letter, Empty, Two, Again}
@@ -11,7 +11,7 @@ use Rattle.rules.specs.Kinds.{kindOf}
 use Rattle.rules.proofs.Walks.{rule-here, not-unknown, not-formula, good-letter}
 use Rattle.tables.proofs.Products.{sum-le-product}
 use Rattle.tables.proofs.Shaping.{stands-good, fits-again, fits-first, fits-second, pair-weights}
-use Rattle.tables.proofs.Building.{some-a, some-b, fits-a, fits-b, grows, ready-up, ready-second, then-done, overlap-done, either-done, both-few-a, both-few-b, left-few, right-few, both-done, left-done, right-done, ready-padded, ready-right, within-done, base-small, fits-zero, shape-room, again-done, letter-room, letter-done, empty-done, again-step, stand, pair-step}
+use Rattle.tables.proofs.Building.{fits-a, fits-b, sizes, ready-up, ready-second, then-done, overlap-done, either-done, both-few-a, both-few-b, left-few, right-few, both-done, left-done, right-done, ready-padded, ready-right, within-done, base-small, fits-zero, shape-room, again-done, letter-room, letter-done, empty-done, again-step, stand, pair-step}
 use borrow.Fn.Kinds.{In}
 use borrow.Fn.PlainCycle.{Measures, is, falls, and}
 use Rattle.tables.proofs.fill.again_at.Reads as again-at
@@ -54,12 +54,8 @@ use Rattle.tables.proofs.link.link.Reads as link-reads
 use Rattle.tables.proofs.overlap.overlap.Reads as overlap-reads
 use Rattle.tables.proofs.product.product.Reads as product-reads
 use Rattle.tables.proofs.shape.shape_at.Reads as shape-at-reads
-use Rattle.tables.proofs.fill.+again_at+both_at+build_at+either_at+left_at+overlap_at+pair_at+right_at+then_at+within_at.{
-  statement,
-}
-use Rattle.tables.proofs.fill.+again_at+both_at+build_at+either_at+left_at+overlap_at+pair_at+right_at+then_at+within_at.Tie.{
-  close,
-}
+use Rattle.tables.proofs.fill.+again_at+both_at+build_at+either_at+left_at+overlap_at+pair_at+right_at+then_at+within_at.{statement}
+use Rattle.tables.proofs.fill.+again_at+both_at+build_at+either_at+left_at+overlap_at+pair_at+right_at+then_at+within_at.Tie.{close}
 
 abbrev μ-again-at : Measures 2 again-at-kinds.ps ℕ
 μ-again-at κs a = 4 * (length (a .0 .now) - a .1 .0) + 1
@@ -275,130 +271,88 @@ again-at-returns t c =
 both-at-returns : (t : ℕ) → both-at-lts.Need-returns (both-at-calls t) (both-at-at t) both-at.Post
 both-at-returns t c =
     let st = c .before .before .before .before .before in
-    let s = st .args .rule .now in
-    let o = st .args .o in
-    let base = st .args .base in
     let g = st .pre .1 .0 in
     let l = st .pre .1 .1 .0 in
     let y = st .pre .1 .1 .1 in
-    let z = grows s o g in
-    let u = some-a s o g in
-    let v = some-b s o g in
-    both-few-a s o g _ base y l (omega (arith, c .if1 .taken))
+    let z = sizes _ _ g in
+    both-few-a _ _ g _ _ y l (omega (arith, c .if1 .taken))
 
 both-at-returns-2 : (t : ℕ) → both-at-lts.Need-returns-2 (both-at-calls t) (both-at-at t) both-at.Post
 both-at-returns-2 t c =
     let st = c .before .before .before .before .before .before in
-    let s = st .args .rule .now in
-    let o = st .args .o in
-    let base = st .args .base in
     let g = st .pre .1 .0 in
     let l = st .pre .1 .1 .0 in
     let y = st .pre .1 .1 .1 in
-    let z = grows s o g in
-    let u = some-a s o g in
-    let v = some-b s o g in
-    both-few-b s o g _ base y l (omega (arith, c .if2 .taken))
+    let z = sizes _ _ g in
+    both-few-b _ _ g _ _ y l (omega (arith, c .if2 .taken))
 
 both-at-build-at-requires : (t : ℕ) → both-at-lts.Need-build-at-requires (both-at-calls t) (both-at-at t) both-at.Post
 both-at-build-at-requires t c κs =
     let st = c .before .before .before .before .before .before .before in
-    let s = st .args .rule .now in
-    let o = st .args .o in
-    let base = st .args .base in
     let g = st .pre .1 .0 in
     let l = st .pre .1 .1 .0 in
     let y = st .pre .1 .1 .1 in
-    let z = grows s o g in
-    let u = some-a s o g in
-    let v = some-b s o g in
-    let hm : 2 ≤ o .a .weight = omega (arith, c .before .before .if1 .left) in
-    let hn : 2 ≤ o .b .weight = omega (arith, c .before .if2 .left) in
-    let w = sum-le-product (o .a .weight) (o .b .weight) hm hn in
-    (omega arith, (fits-a s o g base (omega arith), y))
+    let z = sizes _ _ g in
+    let hm : 2 ≤ st .args .o .a .weight = omega (arith, c .before .before .if1 .left) in
+    let hn : 2 ≤ st .args .o .b .weight = omega (arith, c .before .if2 .left) in
+    let w = sum-le-product (st .args .o .a .weight) (st .args .o .b .weight) hm hn in
+    (omega arith, (fits-a _ _ g _ (omega arith), y))
 
 both-at-add-build-at : (t : ℕ) → both-at-lts.Need-add-build-at (both-at-calls t) (both-at-at t) both-at.Post
 both-at-add-build-at t c =
     let st = c .before .before .before .before .before .before .before .before .before .before .before in
-    let s = st .args .rule .now in
-    let o = st .args .o in
-    let base = st .args .base in
     let g = st .pre .1 .0 in
     let l = st .pre .1 .1 .0 in
-    let y = st .pre .1 .1 .1 in
-    let z = grows s o g in
-    let u = some-a s o g in
-    let v = some-b s o g in
-    let hm : 2 ≤ o .a .weight = omega (arith, c .before .before .before .before .before .before .if1 .left) in
-    let hn : 2 ≤ o .b .weight = omega (arith, c .before .before .before .before .before .if2 .left) in
-    let w = sum-le-product (o .a .weight) (o .b .weight) hm hn in
+    let z = sizes _ _ g in
+    let hm : 2 ≤ st .args .o .a .weight = omega (arith, c .before .before .before .before .before .before .if1 .left) in
+    let hn : 2 ≤ st .args .o .b .weight = omega (arith, c .before .before .before .before .before .if2 .left) in
+    let w = sum-le-product (st .args .o .a .weight) (st .args .o .b .weight) hm hn in
     omega arith
 
 both-at-build-at-requires-2 : (t : ℕ) → both-at-lts.Need-build-at-requires-2 (both-at-calls t) (both-at-at t) both-at.Post
 both-at-build-at-requires-2 t c κs =
     let st = c .before .before .before .before .before .before .before .before .before .before .before in
-    let s = st .args .rule .now in
-    let o = st .args .o in
-    let base = st .args .base in
     let g = st .pre .1 .0 in
     let l = st .pre .1 .1 .0 in
     let y = st .pre .1 .1 .1 in
-    let z = grows s o g in
-    let u = some-a s o g in
-    let v = some-b s o g in
-    let hm : 2 ≤ o .a .weight = omega (arith, c .before .before .before .before .before .before .if1 .left) in
-    let hn : 2 ≤ o .b .weight = omega (arith, c .before .before .before .before .before .if2 .left) in
-    let w = sum-le-product (o .a .weight) (o .b .weight) hm hn in
+    let z = sizes _ _ g in
+    let hm : 2 ≤ st .args .o .a .weight = omega (arith, c .before .before .before .before .before .before .if1 .left) in
+    let hn : 2 ≤ st .args .o .b .weight = omega (arith, c .before .before .before .before .before .if2 .left) in
+    let w = sum-le-product (st .args .o .a .weight) (st .args .o .b .weight) hm hn in
     let k = c .before .before .before in
-    (omega arith, (fits-b s o g _ (omega arith), ready-second s o g _ _ base _ y (k .build-at .kept .1 .1 .0) (k .build-at .ensures) (omega arith)))
+    (omega arith, (fits-b _ _ g _ (omega arith), ready-second _ _ g _ _ _ _ y (k .build-at .kept .1 .1 .0) (k .build-at .ensures) (omega arith)))
 
 both-at-product-requires : (t : ℕ) → both-at-lts.Need-product-requires (both-at-calls t) (both-at-at t) both-at.Post
 both-at-product-requires t c κs =
     let st = c .before .before .before .before .before .before .before .before .before .before .before .before .before .before .before in
-    let s = st .args .rule .now in
-    let o = st .args .o in
-    let base = st .args .base in
     let g = st .pre .1 .0 in
     let l = st .pre .1 .1 .0 in
     let y = st .pre .1 .1 .1 in
-    let z = grows s o g in
-    let u = some-a s o g in
-    let v = some-b s o g in
-    let hm : 2 ≤ o .a .weight = omega (arith, c .before .before .before .before .before .before .before .before .before .before .if1 .left) in
-    let hn : 2 ≤ o .b .weight = omega (arith, c .before .before .before .before .before .before .before .before .before .if2 .left) in
-    let w = sum-le-product (o .a .weight) (o .b .weight) hm hn in
+    let z = sizes _ _ g in
+    let hm : 2 ≤ st .args .o .a .weight = omega (arith, c .before .before .before .before .before .before .before .before .before .before .if1 .left) in
+    let hn : 2 ≤ st .args .o .b .weight = omega (arith, c .before .before .before .before .before .before .before .before .before .if2 .left) in
+    let w = sum-le-product (st .args .o .a .weight) (st .args .o .b .weight) hm hn in
     omega (arith, y .long, c .before .before .before .before .before .before .before .build-at .kept .1 .1 .0, c .before .before .before .build-at2 .kept .1 .1 .0)
 
 both-at-same-length : (t : ℕ) → both-at-lts.Need-same-length (both-at-calls t) (both-at-at t) both-at.Post
 both-at-same-length t c =
     let st = c .before .before .before .before .before .before .before .before .before .before .before .before .before .before .before .before .before .before in
-    let s = st .args .rule .now in
-    let o = st .args .o in
-    let base = st .args .base in
     let g = st .pre .1 .0 in
     let l = st .pre .1 .1 .0 in
-    let y = st .pre .1 .1 .1 in
-    let z = grows s o g in
-    let u = some-a s o g in
-    let v = some-b s o g in
+    let z = sizes _ _ g in
     omega (arith, c .before .before .product .kept .0, c .before .before .before .before .before .before .before .before .before .before .build-at .kept .1 .1 .0, c .before .before .before .before .before .before .build-at2 .kept .1 .1 .0)
 
 both-at-returns-3 : (t : ℕ) → both-at-lts.Need-returns-3 (both-at-calls t) (both-at-at t) both-at.Post
 both-at-returns-3 t c =
     let st = c .before .before .before .before .before .before .before .before .before .before .before .before .before .before .before .before .before .before in
-    let s = st .args .rule .now in
-    let o = st .args .o in
-    let base = st .args .base in
     let g = st .pre .1 .0 in
     let l = st .pre .1 .1 .0 in
     let y = st .pre .1 .1 .1 in
-    let z = grows s o g in
-    let u = some-a s o g in
-    let v = some-b s o g in
-    let hm : 2 ≤ o .a .weight = omega (arith, c .before .before .before .before .before .before .before .before .before .before .before .before .before .if1 .left) in
-    let hn : 2 ≤ o .b .weight = omega (arith, c .before .before .before .before .before .before .before .before .before .before .before .before .if2 .left) in
-    let w = sum-le-product (o .a .weight) (o .b .weight) hm hn in
-    both-done s o g _ _ _ _ base y l hm hn (c .before .before .before .before .before .before .before .before .before .before .build-at .ensures) (c .before .before .before .before .before .before .build-at2 .ensures) (c .before .before .product .ensures)
+    let z = sizes _ _ g in
+    let hm : 2 ≤ st .args .o .a .weight = omega (arith, c .before .before .before .before .before .before .before .before .before .before .before .before .before .if1 .left) in
+    let hn : 2 ≤ st .args .o .b .weight = omega (arith, c .before .before .before .before .before .before .before .before .before .before .before .before .if2 .left) in
+    let w = sum-le-product (st .args .o .a .weight) (st .args .o .b .weight) hm hn in
+    both-done _ _ g _ _ _ _ _ y l hm hn (c .before .before .before .before .before .before .before .before .before .before .build-at .ensures) (c .before .before .before .before .before .before .build-at2 .ensures) (c .before .before .product .ensures)
 
 build-at-shared-slice-read-kind-of : (t : ℕ) → build-at-lts.Need-shared-slice-read-kind-of (build-at-calls t) (build-at-at t) build-at.Post
 build-at-shared-slice-read-kind-of t c =
@@ -659,399 +613,251 @@ build-at-returns-6 t c =
 either-at-add-mid : (t : ℕ) → either-at-lts.Need-add-mid (either-at-calls t) (either-at-at t) either-at.Post
 either-at-add-mid t c =
     let st = c .before .before .before .before in
-    let s = st .args .rule .now in
-    let o = st .args .o in
-    let base = st .args .base in
     let g = st .pre .1 .0 in
     let l = st .pre .1 .1 .0 in
-    let y = st .pre .1 .1 .1 in
-    let z = grows s o g in
-    let u = some-a s o g in
-    let v = some-b s o g in
+    let z = sizes _ _ g in
     omega arith
 
 either-at-add-mid-2 : (t : ℕ) → either-at-lts.Need-add-mid-2 (either-at-calls t) (either-at-at t) either-at.Post
 either-at-add-mid-2 t c =
     let st = c .before .before .before .before .before in
-    let s = st .args .rule .now in
-    let o = st .args .o in
-    let base = st .args .base in
     let g = st .pre .1 .0 in
     let l = st .pre .1 .1 .0 in
-    let y = st .pre .1 .1 .1 in
-    let z = grows s o g in
-    let u = some-a s o g in
-    let v = some-b s o g in
+    let z = sizes _ _ g in
     omega arith
 
 either-at-add-hi : (t : ℕ) → either-at-lts.Need-add-hi (either-at-calls t) (either-at-at t) either-at.Post
 either-at-add-hi t c =
     let st = c .before .before .before .before .before .before in
-    let s = st .args .rule .now in
-    let o = st .args .o in
-    let base = st .args .base in
     let g = st .pre .1 .0 in
     let l = st .pre .1 .1 .0 in
-    let y = st .pre .1 .1 .1 in
-    let z = grows s o g in
-    let u = some-a s o g in
-    let v = some-b s o g in
+    let z = sizes _ _ g in
     omega arith
 
 either-at-add-build-at : (t : ℕ) → either-at-lts.Need-add-build-at (either-at-calls t) (either-at-at t) either-at.Post
 either-at-add-build-at t c =
     let st = c .before .before .before .before .before .before .before in
-    let s = st .args .rule .now in
-    let o = st .args .o in
-    let base = st .args .base in
     let g = st .pre .1 .0 in
     let l = st .pre .1 .1 .0 in
-    let y = st .pre .1 .1 .1 in
-    let z = grows s o g in
-    let u = some-a s o g in
-    let v = some-b s o g in
+    let z = sizes _ _ g in
     omega arith
 
 either-at-build-at-requires : (t : ℕ) → either-at-lts.Need-build-at-requires (either-at-calls t) (either-at-at t) either-at.Post
 either-at-build-at-requires t c κs =
     let st = c .before .before .before .before .before .before .before in
-    let s = st .args .rule .now in
-    let o = st .args .o in
-    let base = st .args .base in
     let g = st .pre .1 .0 in
     let l = st .pre .1 .1 .0 in
     let y = st .pre .1 .1 .1 in
-    let z = grows s o g in
-    let u = some-a s o g in
-    let v = some-b s o g in
-    (omega arith, (fits-a s o g _ (omega arith), ready-up _ base _ y (omega arith)))
+    let z = sizes _ _ g in
+    (omega arith, (fits-a _ _ g _ (omega arith), ready-up _ _ _ y (omega arith)))
 
 either-at-build-at-requires-2 : (t : ℕ) → either-at-lts.Need-build-at-requires-2 (either-at-calls t) (either-at-at t) either-at.Post
 either-at-build-at-requires-2 t c κs =
     let st = c .before .before .before .before .before .before .before .before .before .before .before in
-    let s = st .args .rule .now in
-    let o = st .args .o in
-    let base = st .args .base in
     let g = st .pre .1 .0 in
     let l = st .pre .1 .1 .0 in
     let y = st .pre .1 .1 .1 in
-    let z = grows s o g in
-    let u = some-a s o g in
-    let v = some-b s o g in
+    let z = sizes _ _ g in
     let k = c .before .before .before in
-    (omega arith, (fits-b s o g _ (omega arith), ready-second s o g _ _ (base + 1) _ (ready-up _ base _ y (omega arith)) (k .build-at .kept .1 .1 .0) (k .build-at .ensures) (omega arith)))
+    (omega arith, (fits-b _ _ g _ (omega arith), ready-second _ _ g _ _ _ _ (ready-up _ _ _ y (omega arith)) (k .build-at .kept .1 .1 .0) (k .build-at .ensures) (omega arith)))
 
 either-at-choice-requires : (t : ℕ) → either-at-lts.Need-choice-requires (either-at-calls t) (either-at-at t) either-at.Post
 either-at-choice-requires t c κs =
     let st = c .before .before .before .before .before .before .before .before .before .before .before .before .before .before .before in
-    let s = st .args .rule .now in
-    let o = st .args .o in
-    let base = st .args .base in
     let g = st .pre .1 .0 in
     let l = st .pre .1 .1 .0 in
     let y = st .pre .1 .1 .1 in
-    let z = grows s o g in
-    let u = some-a s o g in
-    let v = some-b s o g in
+    let z = sizes _ _ g in
     omega (arith, y .long, c .before .before .before .before .before .before .before .build-at .kept .1 .1 .0, c .before .before .before .build-at2 .kept .1 .1 .0)
 
 either-at-same-length : (t : ℕ) → either-at-lts.Need-same-length (either-at-calls t) (either-at-at t) either-at.Post
 either-at-same-length t c =
     let st = c .before .before .before .before .before .before .before .before .before .before .before .before .before .before .before .before .before .before in
-    let s = st .args .rule .now in
-    let o = st .args .o in
-    let base = st .args .base in
     let g = st .pre .1 .0 in
     let l = st .pre .1 .1 .0 in
-    let y = st .pre .1 .1 .1 in
-    let z = grows s o g in
-    let u = some-a s o g in
-    let v = some-b s o g in
+    let z = sizes _ _ g in
     omega (arith, c .before .before .choice .kept .0, c .before .before .before .before .before .before .before .before .before .before .build-at .kept .1 .1 .0, c .before .before .before .before .before .before .build-at2 .kept .1 .1 .0)
 
 either-at-returns : (t : ℕ) → either-at-lts.Need-returns (either-at-calls t) (either-at-at t) either-at.Post
 either-at-returns t c =
     let st = c .before .before .before .before .before .before .before .before .before .before .before .before .before .before .before .before .before .before in
-    let s = st .args .rule .now in
-    let o = st .args .o in
-    let base = st .args .base in
     let g = st .pre .1 .0 in
     let l = st .pre .1 .1 .0 in
     let y = st .pre .1 .1 .1 in
-    let z = grows s o g in
-    let u = some-a s o g in
-    let v = some-b s o g in
-    either-done s o g _ _ _ _ base _ _ y refl (omega arith) refl (c .before .before .before .before .before .before .before .before .before .before .build-at .ensures) (c .before .before .before .before .before .before .build-at2 .ensures) (c .before .before .choice .ensures)
+    let z = sizes _ _ g in
+    either-done _ _ g _ _ _ _ _ _ _ y refl (omega arith) refl (c .before .before .before .before .before .before .before .before .before .before .build-at .ensures) (c .before .before .before .before .before .before .build-at2 .ensures) (c .before .before .choice .ensures)
 
 left-at-returns : (t : ℕ) → left-at-lts.Need-returns (left-at-calls t) (left-at-at t) left-at.Post
 left-at-returns t c =
     let st = c .before .before .before .before .before in
-    let s = st .args .rule .now in
-    let o = st .args .o in
-    let base = st .args .base in
     let g = st .pre .1 .0 in
     let l = st .pre .1 .1 .0 in
     let y = st .pre .1 .1 .1 in
-    let z = grows s o g in
-    let u = some-a s o g in
-    let v = some-b s o g in
-    left-few s o g _ base y l (omega (arith, c .if1 .taken))
+    let z = sizes _ _ g in
+    left-few _ _ g _ _ y l (omega (arith, c .if1 .taken))
 
 left-at-add-mid : (t : ℕ) → left-at-lts.Need-add-mid (left-at-calls t) (left-at-at t) left-at.Post
 left-at-add-mid t c =
     let st = c .before .before .before .before .before in
-    let s = st .args .rule .now in
-    let o = st .args .o in
-    let base = st .args .base in
     let g = st .pre .1 .0 in
     let l = st .pre .1 .1 .0 in
-    let y = st .pre .1 .1 .1 in
-    let z = grows s o g in
-    let u = some-a s o g in
-    let v = some-b s o g in
-    let hm : 2 ≤ o .a .weight = omega (arith, c .if1 .left) in
-    let w = sum-le-product (o .a .weight) (o .b .weight + 2) hm (omega arith) in
+    let z = sizes _ _ g in
+    let hm : 2 ≤ st .args .o .a .weight = omega (arith, c .if1 .left) in
+    let w = sum-le-product (st .args .o .a .weight) (st .args .o .b .weight + 2) hm (omega arith) in
     omega arith
 
 left-at-build-at-requires : (t : ℕ) → left-at-lts.Need-build-at-requires (left-at-calls t) (left-at-at t) left-at.Post
 left-at-build-at-requires t c κs =
     let st = c .before .before .before .before .before .before in
-    let s = st .args .rule .now in
-    let o = st .args .o in
-    let base = st .args .base in
     let g = st .pre .1 .0 in
     let l = st .pre .1 .1 .0 in
     let y = st .pre .1 .1 .1 in
-    let z = grows s o g in
-    let u = some-a s o g in
-    let v = some-b s o g in
-    let hm : 2 ≤ o .a .weight = omega (arith, c .before .if1 .left) in
-    let w = sum-le-product (o .a .weight) (o .b .weight + 2) hm (omega arith) in
-    (omega arith, (fits-a s o g base (omega arith), y))
+    let z = sizes _ _ g in
+    let hm : 2 ≤ st .args .o .a .weight = omega (arith, c .before .if1 .left) in
+    let w = sum-le-product (st .args .o .a .weight) (st .args .o .b .weight + 2) hm (omega arith) in
+    (omega arith, (fits-a _ _ g _ (omega arith), y))
 
 left-at-build-at-requires-2 : (t : ℕ) → left-at-lts.Need-build-at-requires-2 (left-at-calls t) (left-at-at t) left-at.Post
 left-at-build-at-requires-2 t c κs =
     let st = c .before .before .before .before .before .before .before .before .before .before in
-    let s = st .args .rule .now in
-    let o = st .args .o in
-    let base = st .args .base in
     let g = st .pre .1 .0 in
     let l = st .pre .1 .1 .0 in
     let y = st .pre .1 .1 .1 in
-    let z = grows s o g in
-    let u = some-a s o g in
-    let v = some-b s o g in
-    let hm : 2 ≤ o .a .weight = omega (arith, c .before .before .before .before .before .if1 .left) in
-    let w = sum-le-product (o .a .weight) (o .b .weight + 2) hm (omega arith) in
+    let z = sizes _ _ g in
+    let hm : 2 ≤ st .args .o .a .weight = omega (arith, c .before .before .before .before .before .if1 .left) in
+    let w = sum-le-product (st .args .o .a .weight) (st .args .o .b .weight + 2) hm (omega arith) in
     let k = c .before .before .before in
-    (omega arith, (fits-b s o g _ (omega arith), ready-second s o g _ _ base _ y (k .build-at .kept .1 .1 .0) (k .build-at .ensures) (omega arith)))
+    (omega arith, (fits-b _ _ g _ (omega arith), ready-second _ _ g _ _ _ _ y (k .build-at .kept .1 .1 .0) (k .build-at .ensures) (omega arith)))
 
 left-at-raise-requires : (t : ℕ) → left-at-lts.Need-raise-requires (left-at-calls t) (left-at-at t) left-at.Post
 left-at-raise-requires t c κs =
     let st = c .before .before .before .before .before .before .before .before .before .before .before .before .before in
-    let s = st .args .rule .now in
-    let o = st .args .o in
-    let base = st .args .base in
     let g = st .pre .1 .0 in
     let l = st .pre .1 .1 .0 in
-    let y = st .pre .1 .1 .1 in
-    let z = grows s o g in
-    let u = some-a s o g in
-    let v = some-b s o g in
-    let hm : 2 ≤ o .a .weight = omega (arith, c .before .before .before .before .before .before .before .before .if1 .left) in
-    let w = sum-le-product (o .a .weight) (o .b .weight + 2) hm (omega arith) in
+    let z = sizes _ _ g in
+    let hm : 2 ≤ st .args .o .a .weight = omega (arith, c .before .before .before .before .before .before .before .before .if1 .left) in
+    let w = sum-le-product (st .args .o .a .weight) (st .args .o .b .weight + 2) hm (omega arith) in
     omega arith
 
 left-at-pad-requires : (t : ℕ) → left-at-lts.Need-pad-requires (left-at-calls t) (left-at-at t) left-at.Post
 left-at-pad-requires t c κs =
     let st = c .before .before .before .before .before .before .before .before .before .before .before .before .before .before .before in
-    let s = st .args .rule .now in
-    let o = st .args .o in
-    let base = st .args .base in
     let g = st .pre .1 .0 in
     let l = st .pre .1 .1 .0 in
     let y = st .pre .1 .1 .1 in
-    let z = grows s o g in
-    let u = some-a s o g in
-    let v = some-b s o g in
-    let hm : 2 ≤ o .a .weight = omega (arith, c .before .before .before .before .before .before .before .before .before .before .if1 .left) in
-    let w = sum-le-product (o .a .weight) (o .b .weight + 2) hm (omega arith) in
+    let z = sizes _ _ g in
+    let hm : 2 ≤ st .args .o .a .weight = omega (arith, c .before .before .before .before .before .before .before .before .before .before .if1 .left) in
+    let w = sum-le-product (st .args .o .a .weight) (st .args .o .b .weight + 2) hm (omega arith) in
     omega (arith, y .long, c .before .before .before .before .before .before .before .before .build-at .kept .1 .1 .0, c .before .before .before .before .build-at2 .kept .1 .1 .0)
 
 left-at-add-product : (t : ℕ) → left-at-lts.Need-add-product (left-at-calls t) (left-at-at t) left-at.Post
 left-at-add-product t c =
     let st = c .before .before .before .before .before .before .before .before .before .before .before .before .before .before .before .before .before .before .before in
-    let s = st .args .rule .now in
-    let o = st .args .o in
-    let base = st .args .base in
     let g = st .pre .1 .0 in
     let l = st .pre .1 .1 .0 in
-    let y = st .pre .1 .1 .1 in
-    let z = grows s o g in
-    let u = some-a s o g in
-    let v = some-b s o g in
-    let hm : 2 ≤ o .a .weight = omega (arith, c .before .before .before .before .before .before .before .before .before .before .before .before .before .before .if1 .left) in
-    let w = sum-le-product (o .a .weight) (o .b .weight + 2) hm (omega arith) in
+    let z = sizes _ _ g in
+    let hm : 2 ≤ st .args .o .a .weight = omega (arith, c .before .before .before .before .before .before .before .before .before .before .before .before .before .before .if1 .left) in
+    let w = sum-le-product (st .args .o .a .weight) (st .args .o .b .weight + 2) hm (omega arith) in
     omega arith
 
 left-at-product-requires : (t : ℕ) → left-at-lts.Need-product-requires (left-at-calls t) (left-at-at t) left-at.Post
 left-at-product-requires t c κs =
     let st = c .before .before .before .before .before .before .before .before .before .before .before .before .before .before .before .before .before .before .before in
-    let s = st .args .rule .now in
-    let o = st .args .o in
-    let base = st .args .base in
     let g = st .pre .1 .0 in
     let l = st .pre .1 .1 .0 in
     let y = st .pre .1 .1 .1 in
-    let z = grows s o g in
-    let u = some-a s o g in
-    let v = some-b s o g in
-    let hm : 2 ≤ o .a .weight = omega (arith, c .before .before .before .before .before .before .before .before .before .before .before .before .before .before .if1 .left) in
-    let w = sum-le-product (o .a .weight) (o .b .weight + 2) hm (omega arith) in
+    let z = sizes _ _ g in
+    let hm : 2 ≤ st .args .o .a .weight = omega (arith, c .before .before .before .before .before .before .before .before .before .before .before .before .before .before .if1 .left) in
+    let w = sum-le-product (st .args .o .a .weight) (st .args .o .b .weight + 2) hm (omega arith) in
     omega (arith, y .long, c .before .before .before .before .before .before .before .before .before .before .before .before .build-at .kept .1 .1 .0, c .before .before .before .before .before .before .before .before .build-at2 .kept .1 .1 .0, c .before .before .before .pad .kept .0)
 
 left-at-same-length : (t : ℕ) → left-at-lts.Need-same-length (left-at-calls t) (left-at-at t) left-at.Post
 left-at-same-length t c =
     let st = c .before .before .before .before .before .before .before .before .before .before .before .before .before .before .before .before .before .before .before .before .before .before in
-    let s = st .args .rule .now in
-    let o = st .args .o in
-    let base = st .args .base in
     let g = st .pre .1 .0 in
     let l = st .pre .1 .1 .0 in
-    let y = st .pre .1 .1 .1 in
-    let z = grows s o g in
-    let u = some-a s o g in
-    let v = some-b s o g in
+    let z = sizes _ _ g in
     omega (arith, c .before .before .product .kept .0, c .before .before .before .before .before .before .before .before .before .before .before .before .before .before .before .build-at .kept .1 .1 .0, c .before .before .before .before .before .before .before .before .before .before .before .build-at2 .kept .1 .1 .0, c .before .before .before .before .before .before .pad .kept .0)
 
 left-at-returns-2 : (t : ℕ) → left-at-lts.Need-returns-2 (left-at-calls t) (left-at-at t) left-at.Post
 left-at-returns-2 t c =
     let st = c .before .before .before .before .before .before .before .before .before .before .before .before .before .before .before .before .before .before .before .before .before .before in
-    let s = st .args .rule .now in
-    let o = st .args .o in
-    let base = st .args .base in
     let g = st .pre .1 .0 in
     let l = st .pre .1 .1 .0 in
     let y = st .pre .1 .1 .1 in
-    let z = grows s o g in
-    let u = some-a s o g in
-    let v = some-b s o g in
-    let hm : 2 ≤ o .a .weight = omega (arith, c .before .before .before .before .before .before .before .before .before .before .before .before .before .before .before .before .before .if1 .left) in
-    let w = sum-le-product (o .a .weight) (o .b .weight + 2) hm (omega arith) in
-    left-done s o g _ _ _ _ _ base _ y l hm (c .before .before .before .before .before .before .before .before .before .before .before .before .before .before .before .build-at .ensures) (c .before .before .before .before .before .before .before .before .before .before .before .build-at2 .ensures) (c .before .before .before .before .before .before .before .before .raise .ensures) (c .before .before .before .before .before .before .pad .ensures) (c .before .before .product .ensures)
+    let z = sizes _ _ g in
+    let hm : 2 ≤ st .args .o .a .weight = omega (arith, c .before .before .before .before .before .before .before .before .before .before .before .before .before .before .before .before .before .if1 .left) in
+    let w = sum-le-product (st .args .o .a .weight) (st .args .o .b .weight + 2) hm (omega arith) in
+    left-done _ _ g _ _ _ _ _ _ _ y l hm (c .before .before .before .before .before .before .before .before .before .before .before .before .before .before .before .build-at .ensures) (c .before .before .before .before .before .before .before .before .before .before .before .build-at2 .ensures) (c .before .before .before .before .before .before .before .before .raise .ensures) (c .before .before .before .before .before .before .pad .ensures) (c .before .before .product .ensures)
 
 overlap-at-add-mid : (t : ℕ) → overlap-at-lts.Need-add-mid (overlap-at-calls t) (overlap-at-at t) overlap-at.Post
 overlap-at-add-mid t c =
     let st = c .before .before .before .before .before in
-    let s = st .args .rule .now in
-    let o = st .args .o in
-    let base = st .args .base in
     let g = st .pre .1 .0 in
     let l = st .pre .1 .1 .0 in
-    let y = st .pre .1 .1 .1 in
-    let z = grows s o g in
-    let u = some-a s o g in
-    let v = some-b s o g in
+    let z = sizes _ _ g in
     omega arith
 
 overlap-at-add-hi : (t : ℕ) → overlap-at-lts.Need-add-hi (overlap-at-calls t) (overlap-at-at t) overlap-at.Post
 overlap-at-add-hi t c =
     let st = c .before .before .before .before .before .before in
-    let s = st .args .rule .now in
-    let o = st .args .o in
-    let base = st .args .base in
     let g = st .pre .1 .0 in
     let l = st .pre .1 .1 .0 in
-    let y = st .pre .1 .1 .1 in
-    let z = grows s o g in
-    let u = some-a s o g in
-    let v = some-b s o g in
+    let z = sizes _ _ g in
     omega arith
 
 overlap-at-build-at-requires : (t : ℕ) → overlap-at-lts.Need-build-at-requires (overlap-at-calls t) (overlap-at-at t) overlap-at.Post
 overlap-at-build-at-requires t c κs =
     let st = c .before .before .before .before .before .before .before in
-    let s = st .args .rule .now in
-    let o = st .args .o in
-    let base = st .args .base in
     let g = st .pre .1 .0 in
     let l = st .pre .1 .1 .0 in
     let y = st .pre .1 .1 .1 in
-    let z = grows s o g in
-    let u = some-a s o g in
-    let v = some-b s o g in
-    (omega arith, (fits-a s o g base (omega arith), y))
+    let z = sizes _ _ g in
+    (omega arith, (fits-a _ _ g _ (omega arith), y))
 
 overlap-at-build-at-requires-2 : (t : ℕ) → overlap-at-lts.Need-build-at-requires-2 (overlap-at-calls t) (overlap-at-at t) overlap-at.Post
 overlap-at-build-at-requires-2 t c κs =
     let st = c .before .before .before .before .before .before .before .before .before .before .before in
-    let s = st .args .rule .now in
-    let o = st .args .o in
-    let base = st .args .base in
     let g = st .pre .1 .0 in
     let l = st .pre .1 .1 .0 in
     let y = st .pre .1 .1 .1 in
-    let z = grows s o g in
-    let u = some-a s o g in
-    let v = some-b s o g in
+    let z = sizes _ _ g in
     let k = c .before .before .before in
-    (omega arith, (fits-b s o g _ (omega arith), ready-second s o g _ _ base _ y (k .build-at .kept .1 .1 .0) (k .build-at .ensures) (omega arith)))
+    (omega arith, (fits-b _ _ g _ (omega arith), ready-second _ _ g _ _ _ _ y (k .build-at .kept .1 .1 .0) (k .build-at .ensures) (omega arith)))
 
 overlap-at-raise-requires : (t : ℕ) → overlap-at-lts.Need-raise-requires (overlap-at-calls t) (overlap-at-at t) overlap-at.Post
 overlap-at-raise-requires t c κs =
     let st = c .before .before .before .before .before .before .before .before .before .before .before .before .before .before in
-    let s = st .args .rule .now in
-    let o = st .args .o in
-    let base = st .args .base in
     let g = st .pre .1 .0 in
     let l = st .pre .1 .1 .0 in
-    let y = st .pre .1 .1 .1 in
-    let z = grows s o g in
-    let u = some-a s o g in
-    let v = some-b s o g in
+    let z = sizes _ _ g in
     omega arith
 
 overlap-at-overlap-requires : (t : ℕ) → overlap-at-lts.Need-overlap-requires (overlap-at-calls t) (overlap-at-at t) overlap-at.Post
 overlap-at-overlap-requires t c κs =
     let st = c .before .before .before .before .before .before .before .before .before .before .before .before .before .before .before .before in
-    let s = st .args .rule .now in
-    let o = st .args .o in
-    let base = st .args .base in
     let g = st .pre .1 .0 in
     let l = st .pre .1 .1 .0 in
     let y = st .pre .1 .1 .1 in
-    let z = grows s o g in
-    let u = some-a s o g in
-    let v = some-b s o g in
+    let z = sizes _ _ g in
     omega (arith, y .long, c .before .before .before .before .before .before .before .before .build-at .kept .1 .1 .0, c .before .before .before .before .build-at2 .kept .1 .1 .0)
 
 overlap-at-same-length : (t : ℕ) → overlap-at-lts.Need-same-length (overlap-at-calls t) (overlap-at-at t) overlap-at.Post
 overlap-at-same-length t c =
     let st = c .before .before .before .before .before .before .before .before .before .before .before .before .before .before .before .before .before .before .before in
-    let s = st .args .rule .now in
-    let o = st .args .o in
-    let base = st .args .base in
     let g = st .pre .1 .0 in
     let l = st .pre .1 .1 .0 in
-    let y = st .pre .1 .1 .1 in
-    let z = grows s o g in
-    let u = some-a s o g in
-    let v = some-b s o g in
+    let z = sizes _ _ g in
     omega (arith, c .before .before .overlap .kept .0, c .before .before .before .before .before .before .before .before .before .before .before .build-at .kept .1 .1 .0, c .before .before .before .before .before .before .before .build-at2 .kept .1 .1 .0)
 
 overlap-at-returns : (t : ℕ) → overlap-at-lts.Need-returns (overlap-at-calls t) (overlap-at-at t) overlap-at.Post
 overlap-at-returns t c =
     let st = c .before .before .before .before .before .before .before .before .before .before .before .before .before .before .before .before .before .before .before in
-    let s = st .args .rule .now in
-    let o = st .args .o in
-    let base = st .args .base in
     let g = st .pre .1 .0 in
     let l = st .pre .1 .1 .0 in
     let y = st .pre .1 .1 .1 in
-    let z = grows s o g in
-    let u = some-a s o g in
-    let v = some-b s o g in
-    overlap-done s o g _ _ _ _ base _ _ _ y refl (omega arith) refl (c .before .before .before .before .before .before .before .before .before .before .before .build-at .ensures) (c .before .before .before .before .before .before .before .build-at2 .ensures) (c .before .before .before .before .raise .ensures) (c .before .before .overlap .ensures)
+    let z = sizes _ _ g in
+    overlap-done _ _ g _ _ _ _ _ _ _ _ y refl (omega arith) refl (c .before .before .before .before .before .before .before .before .before .before .before .build-at .ensures) (c .before .before .before .before .before .before .before .build-at2 .ensures) (c .before .before .before .before .raise .ensures) (c .before .before .overlap .ensures)
 
 pair-at-enum-told : (t : ℕ) → pair-at-lts.Need-enum-told (pair-at-calls t) (pair-at-at t) pair-at.Post
 pair-at-enum-told t c = search needs
@@ -1059,15 +865,10 @@ pair-at-enum-told t c = search needs
 pair-at-then-at-requires : (t : ℕ) → pair-at-lts.Need-then-at-requires (pair-at-calls t) (pair-at-at t) pair-at.Post
 pair-at-then-at-requires t c κs =
     let st = c .before .before .before .before .before in
-    let s = st .args .rule .now in
-    let o = st .args .o in
-    let base = st .args .base in
     let g = st .pre .1 .0 in
     let l = st .pre .1 .1 .0 in
     let y = st .pre .1 .1 .1 in
-    let z = grows s o g in
-    let u = some-a s o g in
-    let v = some-b s o g in
+    let z = sizes _ _ g in
     (omega arith, (g, (rw (c .before .enum-told .given .1) at l, y)))
 
 pair-at-enum-told-2 : (t : ℕ) → pair-at-lts.Need-enum-told-2 (pair-at-calls t) (pair-at-at t) pair-at.Post
@@ -1076,15 +877,10 @@ pair-at-enum-told-2 t c = search needs
 pair-at-overlap-at-requires : (t : ℕ) → pair-at-lts.Need-overlap-at-requires (pair-at-calls t) (pair-at-at t) pair-at.Post
 pair-at-overlap-at-requires t c κs =
     let st = c .before .before .before .before .before in
-    let s = st .args .rule .now in
-    let o = st .args .o in
-    let base = st .args .base in
     let g = st .pre .1 .0 in
     let l = st .pre .1 .1 .0 in
     let y = st .pre .1 .1 .1 in
-    let z = grows s o g in
-    let u = some-a s o g in
-    let v = some-b s o g in
+    let z = sizes _ _ g in
     (omega arith, (g, (rw (c .before .enum-told2 .given .1) at l, y)))
 
 pair-at-enum-told-3 : (t : ℕ) → pair-at-lts.Need-enum-told-3 (pair-at-calls t) (pair-at-at t) pair-at.Post
@@ -1093,15 +889,10 @@ pair-at-enum-told-3 t c = search needs
 pair-at-either-at-requires : (t : ℕ) → pair-at-lts.Need-either-at-requires (pair-at-calls t) (pair-at-at t) pair-at.Post
 pair-at-either-at-requires t c κs =
     let st = c .before .before .before .before .before in
-    let s = st .args .rule .now in
-    let o = st .args .o in
-    let base = st .args .base in
     let g = st .pre .1 .0 in
     let l = st .pre .1 .1 .0 in
     let y = st .pre .1 .1 .1 in
-    let z = grows s o g in
-    let u = some-a s o g in
-    let v = some-b s o g in
+    let z = sizes _ _ g in
     (omega arith, (g, (rw (c .before .enum-told3 .given .1) at l, y)))
 
 pair-at-enum-told-4 : (t : ℕ) → pair-at-lts.Need-enum-told-4 (pair-at-calls t) (pair-at-at t) pair-at.Post
@@ -1110,15 +901,10 @@ pair-at-enum-told-4 t c = search needs
 pair-at-within-at-requires : (t : ℕ) → pair-at-lts.Need-within-at-requires (pair-at-calls t) (pair-at-at t) pair-at.Post
 pair-at-within-at-requires t c κs =
     let st = c .before .before .before .before .before in
-    let s = st .args .rule .now in
-    let o = st .args .o in
-    let base = st .args .base in
     let g = st .pre .1 .0 in
     let l = st .pre .1 .1 .0 in
     let y = st .pre .1 .1 .1 in
-    let z = grows s o g in
-    let u = some-a s o g in
-    let v = some-b s o g in
+    let z = sizes _ _ g in
     (omega arith, (g, (rw (c .before .enum-told4 .given .1) at l, y)))
 
 pair-at-enum-told-5 : (t : ℕ) → pair-at-lts.Need-enum-told-5 (pair-at-calls t) (pair-at-at t) pair-at.Post
@@ -1127,624 +913,341 @@ pair-at-enum-told-5 t c = search needs
 pair-at-both-at-requires : (t : ℕ) → pair-at-lts.Need-both-at-requires (pair-at-calls t) (pair-at-at t) pair-at.Post
 pair-at-both-at-requires t c κs =
     let st = c .before .before .before .before .before in
-    let s = st .args .rule .now in
-    let o = st .args .o in
-    let base = st .args .base in
     let g = st .pre .1 .0 in
     let l = st .pre .1 .1 .0 in
     let y = st .pre .1 .1 .1 in
-    let z = grows s o g in
-    let u = some-a s o g in
-    let v = some-b s o g in
+    let z = sizes _ _ g in
     (omega arith, (g, (rw (c .before .enum-told5 .given .1) at l, y)))
 
 pair-at-same-length : (t : ℕ) → pair-at-lts.Need-same-length (pair-at-calls t) (pair-at-at t) pair-at.Post
 pair-at-same-length t c =
-    let st = c .before .before .before .before .before .before .before .before in
-    let s = st .args .rule .now in
-    let o = st .args .o in
-    let base = st .args .base in
-    let g = st .pre .1 .0 in
-    let l = st .pre .1 .1 .0 in
-    let y = st .pre .1 .1 .1 in
-    let z = grows s o g in
-    let u = some-a s o g in
-    let v = some-b s o g in
     c .before .before .then-at .kept .1 .0
 
 pair-at-returns : (t : ℕ) → pair-at-lts.Need-returns (pair-at-calls t) (pair-at-at t) pair-at.Post
 pair-at-returns t c =
-    let st = c .before .before .before .before .before .before .before .before in
-    let s = st .args .rule .now in
-    let o = st .args .o in
-    let base = st .args .base in
-    let g = st .pre .1 .0 in
-    let l = st .pre .1 .1 .0 in
-    let y = st .pre .1 .1 .1 in
-    let z = grows s o g in
-    let u = some-a s o g in
-    let v = some-b s o g in
     rw (c .before .before .before .before .enum-told .given .1) (c .before .before .then-at .ensures)
 
 pair-at-same-length-2 : (t : ℕ) → pair-at-lts.Need-same-length-2 (pair-at-calls t) (pair-at-at t) pair-at.Post
 pair-at-same-length-2 t c =
-    let st = c .before .before .before .before .before .before .before .before in
-    let s = st .args .rule .now in
-    let o = st .args .o in
-    let base = st .args .base in
-    let g = st .pre .1 .0 in
-    let l = st .pre .1 .1 .0 in
-    let y = st .pre .1 .1 .1 in
-    let z = grows s o g in
-    let u = some-a s o g in
-    let v = some-b s o g in
     c .before .before .overlap-at .kept .1 .0
 
 pair-at-returns-2 : (t : ℕ) → pair-at-lts.Need-returns-2 (pair-at-calls t) (pair-at-at t) pair-at.Post
 pair-at-returns-2 t c =
-    let st = c .before .before .before .before .before .before .before .before in
-    let s = st .args .rule .now in
-    let o = st .args .o in
-    let base = st .args .base in
-    let g = st .pre .1 .0 in
-    let l = st .pre .1 .1 .0 in
-    let y = st .pre .1 .1 .1 in
-    let z = grows s o g in
-    let u = some-a s o g in
-    let v = some-b s o g in
     rw (c .before .before .before .before .enum-told2 .given .1) (c .before .before .overlap-at .ensures)
 
 pair-at-same-length-3 : (t : ℕ) → pair-at-lts.Need-same-length-3 (pair-at-calls t) (pair-at-at t) pair-at.Post
 pair-at-same-length-3 t c =
-    let st = c .before .before .before .before .before .before .before .before in
-    let s = st .args .rule .now in
-    let o = st .args .o in
-    let base = st .args .base in
-    let g = st .pre .1 .0 in
-    let l = st .pre .1 .1 .0 in
-    let y = st .pre .1 .1 .1 in
-    let z = grows s o g in
-    let u = some-a s o g in
-    let v = some-b s o g in
     c .before .before .either-at .kept .1 .0
 
 pair-at-returns-3 : (t : ℕ) → pair-at-lts.Need-returns-3 (pair-at-calls t) (pair-at-at t) pair-at.Post
 pair-at-returns-3 t c =
-    let st = c .before .before .before .before .before .before .before .before in
-    let s = st .args .rule .now in
-    let o = st .args .o in
-    let base = st .args .base in
-    let g = st .pre .1 .0 in
-    let l = st .pre .1 .1 .0 in
-    let y = st .pre .1 .1 .1 in
-    let z = grows s o g in
-    let u = some-a s o g in
-    let v = some-b s o g in
     rw (c .before .before .before .before .enum-told3 .given .1) (c .before .before .either-at .ensures)
 
 pair-at-same-length-4 : (t : ℕ) → pair-at-lts.Need-same-length-4 (pair-at-calls t) (pair-at-at t) pair-at.Post
 pair-at-same-length-4 t c =
-    let st = c .before .before .before .before .before .before .before .before in
-    let s = st .args .rule .now in
-    let o = st .args .o in
-    let base = st .args .base in
-    let g = st .pre .1 .0 in
-    let l = st .pre .1 .1 .0 in
-    let y = st .pre .1 .1 .1 in
-    let z = grows s o g in
-    let u = some-a s o g in
-    let v = some-b s o g in
     c .before .before .within-at .kept .1 .0
 
 pair-at-returns-4 : (t : ℕ) → pair-at-lts.Need-returns-4 (pair-at-calls t) (pair-at-at t) pair-at.Post
 pair-at-returns-4 t c =
-    let st = c .before .before .before .before .before .before .before .before in
-    let s = st .args .rule .now in
-    let o = st .args .o in
-    let base = st .args .base in
-    let g = st .pre .1 .0 in
-    let l = st .pre .1 .1 .0 in
-    let y = st .pre .1 .1 .1 in
-    let z = grows s o g in
-    let u = some-a s o g in
-    let v = some-b s o g in
     rw (c .before .before .before .before .enum-told4 .given .1) (c .before .before .within-at .ensures)
 
 pair-at-same-length-5 : (t : ℕ) → pair-at-lts.Need-same-length-5 (pair-at-calls t) (pair-at-at t) pair-at.Post
 pair-at-same-length-5 t c =
-    let st = c .before .before .before .before .before .before .before .before in
-    let s = st .args .rule .now in
-    let o = st .args .o in
-    let base = st .args .base in
-    let g = st .pre .1 .0 in
-    let l = st .pre .1 .1 .0 in
-    let y = st .pre .1 .1 .1 in
-    let z = grows s o g in
-    let u = some-a s o g in
-    let v = some-b s o g in
     c .before .before .both-at .kept .1 .0
 
 pair-at-returns-5 : (t : ℕ) → pair-at-lts.Need-returns-5 (pair-at-calls t) (pair-at-at t) pair-at.Post
 pair-at-returns-5 t c =
-    let st = c .before .before .before .before .before .before .before .before in
-    let s = st .args .rule .now in
-    let o = st .args .o in
-    let base = st .args .base in
-    let g = st .pre .1 .0 in
-    let l = st .pre .1 .1 .0 in
-    let y = st .pre .1 .1 .1 in
-    let z = grows s o g in
-    let u = some-a s o g in
-    let v = some-b s o g in
     rw (c .before .before .before .before .enum-told5 .given .1) (c .before .before .both-at .ensures)
 
 right-at-returns : (t : ℕ) → right-at-lts.Need-returns (right-at-calls t) (right-at-at t) right-at.Post
 right-at-returns t c =
     let st = c .before .before .before .before .before in
-    let s = st .args .rule .now in
-    let o = st .args .o in
-    let base = st .args .base in
     let g = st .pre .1 .0 in
     let l = st .pre .1 .1 .0 in
     let y = st .pre .1 .1 .1 in
-    let z = grows s o g in
-    let u = some-a s o g in
-    let v = some-b s o g in
-    right-few s o g _ base y l (omega (arith, c .if1 .taken))
+    let z = sizes _ _ g in
+    right-few _ _ g _ _ y l (omega (arith, c .if1 .taken))
 
 right-at-build-at-requires : (t : ℕ) → right-at-lts.Need-build-at-requires (right-at-calls t) (right-at-at t) right-at.Post
 right-at-build-at-requires t c κs =
     let st = c .before .before .before .before .before .before in
-    let s = st .args .rule .now in
-    let o = st .args .o in
-    let base = st .args .base in
     let g = st .pre .1 .0 in
     let l = st .pre .1 .1 .0 in
     let y = st .pre .1 .1 .1 in
-    let z = grows s o g in
-    let u = some-a s o g in
-    let v = some-b s o g in
-    let hn : 2 ≤ o .b .weight = omega (arith, c .before .if1 .left) in
-    let w = sum-le-product (o .a .weight + 2) (o .b .weight) (omega arith) hn in
-    (omega arith, (fits-a s o g base (omega arith), y))
+    let z = sizes _ _ g in
+    let hn : 2 ≤ st .args .o .b .weight = omega (arith, c .before .if1 .left) in
+    let w = sum-le-product (st .args .o .a .weight + 2) (st .args .o .b .weight) (omega arith) hn in
+    (omega arith, (fits-a _ _ g _ (omega arith), y))
 
 right-at-raise-requires : (t : ℕ) → right-at-lts.Need-raise-requires (right-at-calls t) (right-at-at t) right-at.Post
 right-at-raise-requires t c κs =
     let st = c .before .before .before .before .before .before .before .before .before in
-    let s = st .args .rule .now in
-    let o = st .args .o in
-    let base = st .args .base in
     let g = st .pre .1 .0 in
     let l = st .pre .1 .1 .0 in
-    let y = st .pre .1 .1 .1 in
-    let z = grows s o g in
-    let u = some-a s o g in
-    let v = some-b s o g in
-    let hn : 2 ≤ o .b .weight = omega (arith, c .before .before .before .before .if1 .left) in
-    let w = sum-le-product (o .a .weight + 2) (o .b .weight) (omega arith) hn in
+    let z = sizes _ _ g in
+    let hn : 2 ≤ st .args .o .b .weight = omega (arith, c .before .before .before .before .if1 .left) in
+    let w = sum-le-product (st .args .o .a .weight + 2) (st .args .o .b .weight) (omega arith) hn in
     omega arith
 
 right-at-pad-requires : (t : ℕ) → right-at-lts.Need-pad-requires (right-at-calls t) (right-at-at t) right-at.Post
 right-at-pad-requires t c κs =
     let st = c .before .before .before .before .before .before .before .before .before .before .before in
-    let s = st .args .rule .now in
-    let o = st .args .o in
-    let base = st .args .base in
     let g = st .pre .1 .0 in
     let l = st .pre .1 .1 .0 in
     let y = st .pre .1 .1 .1 in
-    let z = grows s o g in
-    let u = some-a s o g in
-    let v = some-b s o g in
-    let hn : 2 ≤ o .b .weight = omega (arith, c .before .before .before .before .before .before .if1 .left) in
-    let w = sum-le-product (o .a .weight + 2) (o .b .weight) (omega arith) hn in
+    let z = sizes _ _ g in
+    let hn : 2 ≤ st .args .o .b .weight = omega (arith, c .before .before .before .before .before .before .if1 .left) in
+    let w = sum-le-product (st .args .o .a .weight + 2) (st .args .o .b .weight) (omega arith) hn in
     omega (arith, y .long, c .before .before .before .before .build-at .kept .1 .1 .0)
 
 right-at-add-build-at : (t : ℕ) → right-at-lts.Need-add-build-at (right-at-calls t) (right-at-at t) right-at.Post
 right-at-add-build-at t c =
     let st = c .before .before .before .before .before .before .before .before .before .before .before .before .before .before .before in
-    let s = st .args .rule .now in
-    let o = st .args .o in
-    let base = st .args .base in
     let g = st .pre .1 .0 in
     let l = st .pre .1 .1 .0 in
-    let y = st .pre .1 .1 .1 in
-    let z = grows s o g in
-    let u = some-a s o g in
-    let v = some-b s o g in
-    let hn : 2 ≤ o .b .weight = omega (arith, c .before .before .before .before .before .before .before .before .before .before .if1 .left) in
-    let w = sum-le-product (o .a .weight + 2) (o .b .weight) (omega arith) hn in
+    let z = sizes _ _ g in
+    let hn : 2 ≤ st .args .o .b .weight = omega (arith, c .before .before .before .before .before .before .before .before .before .before .if1 .left) in
+    let w = sum-le-product (st .args .o .a .weight + 2) (st .args .o .b .weight) (omega arith) hn in
     omega arith
 
 right-at-add-build-at-2 : (t : ℕ) → right-at-lts.Need-add-build-at-2 (right-at-calls t) (right-at-at t) right-at.Post
 right-at-add-build-at-2 t c =
     let st = c .before .before .before .before .before .before .before .before .before .before .before .before .before .before .before in
-    let s = st .args .rule .now in
-    let o = st .args .o in
-    let base = st .args .base in
     let g = st .pre .1 .0 in
     let l = st .pre .1 .1 .0 in
-    let y = st .pre .1 .1 .1 in
-    let z = grows s o g in
-    let u = some-a s o g in
-    let v = some-b s o g in
-    let hn : 2 ≤ o .b .weight = omega (arith, c .before .before .before .before .before .before .before .before .before .before .if1 .left) in
-    let w = sum-le-product (o .a .weight + 2) (o .b .weight) (omega arith) hn in
+    let z = sizes _ _ g in
+    let hn : 2 ≤ st .args .o .b .weight = omega (arith, c .before .before .before .before .before .before .before .before .before .before .if1 .left) in
+    let w = sum-le-product (st .args .o .a .weight + 2) (st .args .o .b .weight) (omega arith) hn in
     omega arith
 
 right-at-build-at-requires-2 : (t : ℕ) → right-at-lts.Need-build-at-requires-2 (right-at-calls t) (right-at-at t) right-at.Post
 right-at-build-at-requires-2 t c κs =
     let st = c .before .before .before .before .before .before .before .before .before .before .before .before .before .before .before in
-    let s = st .args .rule .now in
-    let o = st .args .o in
-    let base = st .args .base in
     let g = st .pre .1 .0 in
     let l = st .pre .1 .1 .0 in
     let y = st .pre .1 .1 .1 in
-    let z = grows s o g in
-    let u = some-a s o g in
-    let v = some-b s o g in
-    let hn : 2 ≤ o .b .weight = omega (arith, c .before .before .before .before .before .before .before .before .before .before .if1 .left) in
-    let w = sum-le-product (o .a .weight + 2) (o .b .weight) (omega arith) hn in
+    let z = sizes _ _ g in
+    let hn : 2 ≤ st .args .o .b .weight = omega (arith, c .before .before .before .before .before .before .before .before .before .before .if1 .left) in
+    let w = sum-le-product (st .args .o .a .weight + 2) (st .args .o .b .weight) (omega arith) hn in
     let k = c .before .before .before .before .before .before .before .before in
-    (omega arith, (fits-b s o g _ (omega arith), ready-padded s o g _ _ _ base _ y (k .build-at .ensures) (c .before .before .before .before .before .raise .ensures) (c .before .before .before .pad .ensures) (omega (arith, k .build-at .kept .1 .1 .0, c .before .before .before .pad .kept .0))))
+    (omega arith, (fits-b _ _ g _ (omega arith), ready-padded _ _ g _ _ _ _ _ y (k .build-at .ensures) (c .before .before .before .before .before .raise .ensures) (c .before .before .before .pad .ensures) (omega (arith, k .build-at .kept .1 .1 .0, c .before .before .before .pad .kept .0))))
 
 right-at-add-product : (t : ℕ) → right-at-lts.Need-add-product (right-at-calls t) (right-at-at t) right-at.Post
 right-at-add-product t c =
     let st = c .before .before .before .before .before .before .before .before .before .before .before .before .before .before .before .before .before .before .before in
-    let s = st .args .rule .now in
-    let o = st .args .o in
-    let base = st .args .base in
     let g = st .pre .1 .0 in
     let l = st .pre .1 .1 .0 in
-    let y = st .pre .1 .1 .1 in
-    let z = grows s o g in
-    let u = some-a s o g in
-    let v = some-b s o g in
-    let hn : 2 ≤ o .b .weight = omega (arith, c .before .before .before .before .before .before .before .before .before .before .before .before .before .before .if1 .left) in
-    let w = sum-le-product (o .a .weight + 2) (o .b .weight) (omega arith) hn in
+    let z = sizes _ _ g in
+    let hn : 2 ≤ st .args .o .b .weight = omega (arith, c .before .before .before .before .before .before .before .before .before .before .before .before .before .before .if1 .left) in
+    let w = sum-le-product (st .args .o .a .weight + 2) (st .args .o .b .weight) (omega arith) hn in
     omega arith
 
 right-at-product-requires : (t : ℕ) → right-at-lts.Need-product-requires (right-at-calls t) (right-at-at t) right-at.Post
 right-at-product-requires t c κs =
     let st = c .before .before .before .before .before .before .before .before .before .before .before .before .before .before .before .before .before .before .before in
-    let s = st .args .rule .now in
-    let o = st .args .o in
-    let base = st .args .base in
     let g = st .pre .1 .0 in
     let l = st .pre .1 .1 .0 in
     let y = st .pre .1 .1 .1 in
-    let z = grows s o g in
-    let u = some-a s o g in
-    let v = some-b s o g in
-    let hn : 2 ≤ o .b .weight = omega (arith, c .before .before .before .before .before .before .before .before .before .before .before .before .before .before .if1 .left) in
-    let w = sum-le-product (o .a .weight + 2) (o .b .weight) (omega arith) hn in
+    let z = sizes _ _ g in
+    let hn : 2 ≤ st .args .o .b .weight = omega (arith, c .before .before .before .before .before .before .before .before .before .before .before .before .before .before .if1 .left) in
+    let w = sum-le-product (st .args .o .a .weight + 2) (st .args .o .b .weight) (omega arith) hn in
     omega (arith, y .long, c .before .before .before .before .before .before .before .before .before .before .before .before .build-at .kept .1 .1 .0, c .before .before .before .build-at2 .kept .1 .1 .0, c .before .before .before .before .before .before .before .pad .kept .0)
 
 right-at-same-length : (t : ℕ) → right-at-lts.Need-same-length (right-at-calls t) (right-at-at t) right-at.Post
 right-at-same-length t c =
     let st = c .before .before .before .before .before .before .before .before .before .before .before .before .before .before .before .before .before .before .before .before .before .before in
-    let s = st .args .rule .now in
-    let o = st .args .o in
-    let base = st .args .base in
     let g = st .pre .1 .0 in
     let l = st .pre .1 .1 .0 in
-    let y = st .pre .1 .1 .1 in
-    let z = grows s o g in
-    let u = some-a s o g in
-    let v = some-b s o g in
+    let z = sizes _ _ g in
     omega (arith, c .before .before .product .kept .0, c .before .before .before .before .before .before .before .before .before .before .before .before .before .before .before .build-at .kept .1 .1 .0, c .before .before .before .before .before .before .build-at2 .kept .1 .1 .0, c .before .before .before .before .before .before .before .before .before .before .pad .kept .0)
 
 right-at-returns-2 : (t : ℕ) → right-at-lts.Need-returns-2 (right-at-calls t) (right-at-at t) right-at.Post
 right-at-returns-2 t c =
     let st = c .before .before .before .before .before .before .before .before .before .before .before .before .before .before .before .before .before .before .before .before .before .before in
-    let s = st .args .rule .now in
-    let o = st .args .o in
-    let base = st .args .base in
     let g = st .pre .1 .0 in
     let l = st .pre .1 .1 .0 in
     let y = st .pre .1 .1 .1 in
-    let z = grows s o g in
-    let u = some-a s o g in
-    let v = some-b s o g in
-    let hn : 2 ≤ o .b .weight = omega (arith, c .before .before .before .before .before .before .before .before .before .before .before .before .before .before .before .before .before .if1 .left) in
-    let w = sum-le-product (o .a .weight + 2) (o .b .weight) (omega arith) hn in
-    right-done s o g _ _ _ _ _ base _ y l hn (c .before .before .before .before .before .before .before .before .before .before .before .before .before .before .before .build-at .ensures) (c .before .before .before .before .before .before .before .before .before .before .before .before .raise .ensures) (c .before .before .before .before .before .before .before .before .before .before .pad .ensures) (c .before .before .before .before .before .before .build-at2 .ensures) (c .before .before .product .ensures)
+    let z = sizes _ _ g in
+    let hn : 2 ≤ st .args .o .b .weight = omega (arith, c .before .before .before .before .before .before .before .before .before .before .before .before .before .before .before .before .before .if1 .left) in
+    let w = sum-le-product (st .args .o .a .weight + 2) (st .args .o .b .weight) (omega arith) hn in
+    right-done _ _ g _ _ _ _ _ _ _ y l hn (c .before .before .before .before .before .before .before .before .before .before .before .before .before .before .before .build-at .ensures) (c .before .before .before .before .before .before .before .before .before .before .before .before .raise .ensures) (c .before .before .before .before .before .before .before .before .before .before .pad .ensures) (c .before .before .before .before .before .before .build-at2 .ensures) (c .before .before .product .ensures)
 
 then-at-add-mid : (t : ℕ) → then-at-lts.Need-add-mid (then-at-calls t) (then-at-at t) then-at.Post
 then-at-add-mid t c =
     let st = c .before .before .before .before .before in
-    let s = st .args .rule .now in
-    let o = st .args .o in
-    let base = st .args .base in
     let g = st .pre .1 .0 in
     let l = st .pre .1 .1 .0 in
-    let y = st .pre .1 .1 .1 in
-    let z = grows s o g in
-    let u = some-a s o g in
-    let v = some-b s o g in
+    let z = sizes _ _ g in
     omega arith
 
 then-at-add-hi : (t : ℕ) → then-at-lts.Need-add-hi (then-at-calls t) (then-at-at t) then-at.Post
 then-at-add-hi t c =
     let st = c .before .before .before .before .before .before in
-    let s = st .args .rule .now in
-    let o = st .args .o in
-    let base = st .args .base in
     let g = st .pre .1 .0 in
     let l = st .pre .1 .1 .0 in
-    let y = st .pre .1 .1 .1 in
-    let z = grows s o g in
-    let u = some-a s o g in
-    let v = some-b s o g in
+    let z = sizes _ _ g in
     omega arith
 
 then-at-build-at-requires : (t : ℕ) → then-at-lts.Need-build-at-requires (then-at-calls t) (then-at-at t) then-at.Post
 then-at-build-at-requires t c κs =
     let st = c .before .before .before .before .before .before .before in
-    let s = st .args .rule .now in
-    let o = st .args .o in
-    let base = st .args .base in
     let g = st .pre .1 .0 in
     let l = st .pre .1 .1 .0 in
     let y = st .pre .1 .1 .1 in
-    let z = grows s o g in
-    let u = some-a s o g in
-    let v = some-b s o g in
-    (omega arith, (fits-a s o g base (omega arith), y))
+    let z = sizes _ _ g in
+    (omega arith, (fits-a _ _ g _ (omega arith), y))
 
 then-at-build-at-requires-2 : (t : ℕ) → then-at-lts.Need-build-at-requires-2 (then-at-calls t) (then-at-at t) then-at.Post
 then-at-build-at-requires-2 t c κs =
     let st = c .before .before .before .before .before .before .before .before .before .before .before in
-    let s = st .args .rule .now in
-    let o = st .args .o in
-    let base = st .args .base in
     let g = st .pre .1 .0 in
     let l = st .pre .1 .1 .0 in
     let y = st .pre .1 .1 .1 in
-    let z = grows s o g in
-    let u = some-a s o g in
-    let v = some-b s o g in
+    let z = sizes _ _ g in
     let k = c .before .before .before in
-    (omega arith, (fits-b s o g _ (omega arith), ready-second s o g _ _ base _ y (k .build-at .kept .1 .1 .0) (k .build-at .ensures) (omega arith)))
+    (omega arith, (fits-b _ _ g _ (omega arith), ready-second _ _ g _ _ _ _ y (k .build-at .kept .1 .1 .0) (k .build-at .ensures) (omega arith)))
 
 then-at-raise-requires : (t : ℕ) → then-at-lts.Need-raise-requires (then-at-calls t) (then-at-at t) then-at.Post
 then-at-raise-requires t c κs =
     let st = c .before .before .before .before .before .before .before .before .before .before .before .before .before .before in
-    let s = st .args .rule .now in
-    let o = st .args .o in
-    let base = st .args .base in
     let g = st .pre .1 .0 in
     let l = st .pre .1 .1 .0 in
-    let y = st .pre .1 .1 .1 in
-    let z = grows s o g in
-    let u = some-a s o g in
-    let v = some-b s o g in
+    let z = sizes _ _ g in
     omega arith
 
 then-at-link-requires : (t : ℕ) → then-at-lts.Need-link-requires (then-at-calls t) (then-at-at t) then-at.Post
 then-at-link-requires t c κs =
     let st = c .before .before .before .before .before .before .before .before .before .before .before .before .before .before .before .before in
-    let s = st .args .rule .now in
-    let o = st .args .o in
-    let base = st .args .base in
     let g = st .pre .1 .0 in
     let l = st .pre .1 .1 .0 in
     let y = st .pre .1 .1 .1 in
-    let z = grows s o g in
-    let u = some-a s o g in
-    let v = some-b s o g in
+    let z = sizes _ _ g in
     omega (arith, y .long, c .before .before .before .before .before .before .before .before .build-at .kept .1 .1 .0, c .before .before .before .before .build-at2 .kept .1 .1 .0)
 
 then-at-same-length : (t : ℕ) → then-at-lts.Need-same-length (then-at-calls t) (then-at-at t) then-at.Post
 then-at-same-length t c =
     let st = c .before .before .before .before .before .before .before .before .before .before .before .before .before .before .before .before .before .before .before in
-    let s = st .args .rule .now in
-    let o = st .args .o in
-    let base = st .args .base in
     let g = st .pre .1 .0 in
     let l = st .pre .1 .1 .0 in
-    let y = st .pre .1 .1 .1 in
-    let z = grows s o g in
-    let u = some-a s o g in
-    let v = some-b s o g in
+    let z = sizes _ _ g in
     omega (arith, c .before .before .link .kept .0, c .before .before .before .before .before .before .before .before .before .before .before .build-at .kept .1 .1 .0, c .before .before .before .before .before .before .before .build-at2 .kept .1 .1 .0)
 
 then-at-returns : (t : ℕ) → then-at-lts.Need-returns (then-at-calls t) (then-at-at t) then-at.Post
 then-at-returns t c =
     let st = c .before .before .before .before .before .before .before .before .before .before .before .before .before .before .before .before .before .before .before in
-    let s = st .args .rule .now in
-    let o = st .args .o in
-    let base = st .args .base in
     let g = st .pre .1 .0 in
     let l = st .pre .1 .1 .0 in
     let y = st .pre .1 .1 .1 in
-    let z = grows s o g in
-    let u = some-a s o g in
-    let v = some-b s o g in
-    then-done s o g _ _ _ _ base _ _ _ y refl (omega arith) refl (c .before .before .before .before .before .before .before .before .before .before .before .build-at .ensures) (c .before .before .before .before .before .before .before .build-at2 .ensures) (c .before .before .before .before .raise .ensures) (c .before .before .link .ensures)
+    let z = sizes _ _ g in
+    then-done _ _ g _ _ _ _ _ _ _ _ y refl (omega arith) refl (c .before .before .before .before .before .before .before .before .before .before .before .build-at .ensures) (c .before .before .before .before .before .before .before .build-at2 .ensures) (c .before .before .before .before .raise .ensures) (c .before .before .link .ensures)
 
 within-at-add-mid : (t : ℕ) → within-at-lts.Need-add-mid (within-at-calls t) (within-at-at t) within-at.Post
 within-at-add-mid t c =
     let st = c .before .before .before .before in
-    let s = st .args .rule .now in
-    let o = st .args .o in
-    let base = st .args .base in
     let g = st .pre .1 .0 in
     let l = st .pre .1 .1 .0 in
-    let y = st .pre .1 .1 .1 in
-    let z = grows s o g in
-    let u = some-a s o g in
-    let v = some-b s o g in
+    let z = sizes _ _ g in
     omega arith
 
 within-at-add-mid-2 : (t : ℕ) → within-at-lts.Need-add-mid-2 (within-at-calls t) (within-at-at t) within-at.Post
 within-at-add-mid-2 t c =
     let st = c .before .before .before .before in
-    let s = st .args .rule .now in
-    let o = st .args .o in
-    let base = st .args .base in
     let g = st .pre .1 .0 in
     let l = st .pre .1 .1 .0 in
-    let y = st .pre .1 .1 .1 in
-    let z = grows s o g in
-    let u = some-a s o g in
-    let v = some-b s o g in
+    let z = sizes _ _ g in
     omega arith
 
 within-at-mul-mid : (t : ℕ) → within-at-lts.Need-mul-mid (within-at-calls t) (within-at-at t) within-at.Post
 within-at-mul-mid t c =
     let st = c .before .before .before .before in
-    let s = st .args .rule .now in
-    let o = st .args .o in
-    let base = st .args .base in
     let g = st .pre .1 .0 in
     let l = st .pre .1 .1 .0 in
-    let y = st .pre .1 .1 .1 in
-    let z = grows s o g in
-    let u = some-a s o g in
-    let v = some-b s o g in
+    let z = sizes _ _ g in
     omega arith
 
 within-at-add-mid-3 : (t : ℕ) → within-at-lts.Need-add-mid-3 (within-at-calls t) (within-at-at t) within-at.Post
 within-at-add-mid-3 t c =
     let st = c .before .before .before .before in
-    let s = st .args .rule .now in
-    let o = st .args .o in
-    let base = st .args .base in
     let g = st .pre .1 .0 in
     let l = st .pre .1 .1 .0 in
-    let y = st .pre .1 .1 .1 in
-    let z = grows s o g in
-    let u = some-a s o g in
-    let v = some-b s o g in
+    let z = sizes _ _ g in
     omega arith
 
 within-at-add-hi : (t : ℕ) → within-at-lts.Need-add-hi (within-at-calls t) (within-at-at t) within-at.Post
 within-at-add-hi t c =
     let st = c .before .before .before .before in
-    let s = st .args .rule .now in
-    let o = st .args .o in
-    let base = st .args .base in
     let g = st .pre .1 .0 in
     let l = st .pre .1 .1 .0 in
-    let y = st .pre .1 .1 .1 in
-    let z = grows s o g in
-    let u = some-a s o g in
-    let v = some-b s o g in
+    let z = sizes _ _ g in
     omega arith
 
 within-at-mul-hi : (t : ℕ) → within-at-lts.Need-mul-hi (within-at-calls t) (within-at-at t) within-at.Post
 within-at-mul-hi t c =
     let st = c .before .before .before .before in
-    let s = st .args .rule .now in
-    let o = st .args .o in
-    let base = st .args .base in
     let g = st .pre .1 .0 in
     let l = st .pre .1 .1 .0 in
-    let y = st .pre .1 .1 .1 in
-    let z = grows s o g in
-    let u = some-a s o g in
-    let v = some-b s o g in
+    let z = sizes _ _ g in
     omega arith
 
 within-at-add-hi-2 : (t : ℕ) → within-at-lts.Need-add-hi-2 (within-at-calls t) (within-at-at t) within-at.Post
 within-at-add-hi-2 t c =
     let st = c .before .before .before .before in
-    let s = st .args .rule .now in
-    let o = st .args .o in
-    let base = st .args .base in
     let g = st .pre .1 .0 in
     let l = st .pre .1 .1 .0 in
-    let y = st .pre .1 .1 .1 in
-    let z = grows s o g in
-    let u = some-a s o g in
-    let v = some-b s o g in
+    let z = sizes _ _ g in
     omega arith
 
 within-at-add-left-at : (t : ℕ) → within-at-lts.Need-add-left-at (within-at-calls t) (within-at-at t) within-at.Post
 within-at-add-left-at t c =
     let st = c .before .before .before .before .before in
-    let s = st .args .rule .now in
-    let o = st .args .o in
-    let base = st .args .base in
     let g = st .pre .1 .0 in
     let l = st .pre .1 .1 .0 in
-    let y = st .pre .1 .1 .1 in
-    let z = grows s o g in
-    let u = some-a s o g in
-    let v = some-b s o g in
+    let z = sizes _ _ g in
     omega arith
 
 within-at-left-at-requires : (t : ℕ) → within-at-lts.Need-left-at-requires (within-at-calls t) (within-at-at t) within-at.Post
 within-at-left-at-requires t c κs =
     let st = c .before .before .before .before .before in
-    let s = st .args .rule .now in
-    let o = st .args .o in
-    let base = st .args .base in
     let g = st .pre .1 .0 in
     let l = st .pre .1 .1 .0 in
     let y = st .pre .1 .1 .1 in
-    let z = grows s o g in
-    let u = some-a s o g in
-    let v = some-b s o g in
-    (omega arith, (g, (omega arith, ready-up _ base _ y (omega arith))))
+    let z = sizes _ _ g in
+    (omega arith, (g, (omega arith, ready-up _ _ _ y (omega arith))))
 
 within-at-right-at-requires : (t : ℕ) → within-at-lts.Need-right-at-requires (within-at-calls t) (within-at-at t) within-at.Post
 within-at-right-at-requires t c κs =
     let st = c .before .before .before .before .before .before .before .before .before in
-    let s = st .args .rule .now in
-    let o = st .args .o in
-    let base = st .args .base in
     let g = st .pre .1 .0 in
     let l = st .pre .1 .1 .0 in
     let y = st .pre .1 .1 .1 in
-    let z = grows s o g in
-    let u = some-a s o g in
-    let v = some-b s o g in
-    (omega arith, (g, (omega arith, ready-right s o g _ _ base _ y refl (c .before .before .before .left-at .ensures) (c .before .before .before .left-at .kept .1 .0))))
+    let z = sizes _ _ g in
+    (omega arith, (g, (omega arith, ready-right _ _ g _ _ _ _ y refl (c .before .before .before .left-at .ensures) (c .before .before .before .left-at .kept .1 .0))))
 
 within-at-choice-requires : (t : ℕ) → within-at-lts.Need-choice-requires (within-at-calls t) (within-at-at t) within-at.Post
 within-at-choice-requires t c κs =
     let st = c .before .before .before .before .before .before .before .before .before .before .before .before .before in
-    let s = st .args .rule .now in
-    let o = st .args .o in
-    let base = st .args .base in
     let g = st .pre .1 .0 in
     let l = st .pre .1 .1 .0 in
     let y = st .pre .1 .1 .1 in
-    let z = grows s o g in
-    let u = some-a s o g in
-    let v = some-b s o g in
+    let z = sizes _ _ g in
     omega (arith, y .long, c .before .before .before .before .before .before .before .left-at .kept .1 .0, c .before .before .before .right-at .kept .1 .0)
 
 within-at-same-length : (t : ℕ) → within-at-lts.Need-same-length (within-at-calls t) (within-at-at t) within-at.Post
 within-at-same-length t c =
     let st = c .before .before .before .before .before .before .before .before .before .before .before .before .before .before .before .before in
-    let s = st .args .rule .now in
-    let o = st .args .o in
-    let base = st .args .base in
     let g = st .pre .1 .0 in
     let l = st .pre .1 .1 .0 in
-    let y = st .pre .1 .1 .1 in
-    let z = grows s o g in
-    let u = some-a s o g in
-    let v = some-b s o g in
+    let z = sizes _ _ g in
     omega (arith, c .before .before .choice .kept .0, c .before .before .before .before .before .before .before .before .before .before .left-at .kept .1 .0, c .before .before .before .before .before .before .right-at .kept .1 .0)
 
 within-at-returns : (t : ℕ) → within-at-lts.Need-returns (within-at-calls t) (within-at-at t) within-at.Post
 within-at-returns t c =
     let st = c .before .before .before .before .before .before .before .before .before .before .before .before .before .before .before .before in
-    let s = st .args .rule .now in
-    let o = st .args .o in
-    let base = st .args .base in
     let g = st .pre .1 .0 in
     let l = st .pre .1 .1 .0 in
     let y = st .pre .1 .1 .1 in
-    let z = grows s o g in
-    let u = some-a s o g in
-    let v = some-b s o g in
-    within-done s o g _ _ base _ y refl (c .before .before .before .before .before .before .before .before .before .before .left-at .ensures) _ _ _ refl (omega arith) (c .before .before .before .before .before .before .right-at .ensures) (c .before .before .choice .ensures)
+    let z = sizes _ _ g in
+    within-done _ _ g _ _ _ _ y refl (c .before .before .before .before .before .before .before .before .before .before .left-at .ensures) _ _ _ refl (omega arith) (c .before .before .before .before .before .before .right-at .ensures) (c .before .before .choice .ensures)
 
 pub +again-at+both-at+build-at+either-at+left-at+overlap-at+pair-at+right-at+then-at+within-at-spec :
     {M : Type 1} → statement M

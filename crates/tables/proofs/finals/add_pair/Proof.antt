@@ -1,14 +1,9 @@
-use mathlib.Core.Path.{_≡_, refl, sym, _∙_}
-use Prim.Native.Nat.{ℕ, _+_, _-_, _*_, _<_, _≤_}
-use native.Mathlib.Omega.{arith}
+-- `tables::finals::add_pair` meets its contract. Assumes nothing.
+use mathlib.Core.Path.{sym, _∙_}
 use Rattle.tables.proofs.FinalSets.{pair-more, pair-less}
 use borrow.Author.Needs.{needs}
 use Rattle.tables.proofs.finals.add_pair.Statement.{statement}
 use Rattle.tables.proofs.finals.add_pair.Tie as tie
-use Rattle.tables.proofs.finals.add_pair.Reads as reads
-use Rattle.tables.proofs.finals.add_pair.Lts as lts
-use Rattle.bits.proofs.with.Reads as with-reads
-use Rattle.tables.proofs.finals.pair_final.Reads as pair-final-reads
 
 pair-final-requires : tie.Need-pair-final-requires
 pair-final-requires c κs = search needs

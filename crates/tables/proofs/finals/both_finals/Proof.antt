@@ -1,5 +1,6 @@
-use mathlib.Core.Path.{_≡_, refl, sym, _∙_}
-use Prim.Native.Nat.{ℕ, _+_, _-_, _*_, _<_, _≤_}
+-- `tables::finals::both_finals` meets its contract. Assumes nothing.
+use mathlib.Core.Path.{_≡_}
+use Prim.Native.Nat.{_-_, _≤_}
 use native.Mathlib.Omega.{arith}
 use Rattle.bits.specs.Word.{word}
 use Rattle.bits.proofs.Laws.{word-none}
@@ -8,9 +9,6 @@ use Rattle.tables.proofs.FinalSets.{both-done}
 use borrow.Author.Needs.{needs}
 use Rattle.tables.proofs.finals.both_finals.Statement.{statement}
 use Rattle.tables.proofs.finals.both_finals.Tie as tie
-use Rattle.tables.proofs.finals.both_finals.Reads as reads
-use Rattle.tables.proofs.finals.both_finals.Lts as lts
-use Rattle.tables.proofs.finals.add_pair.Reads as add-pair-reads
 
 abbrev Inv-loop : tie.InvT-loop
 Inv-loop a b n w set₀ q₀ set q = (q ≤ w) × (set ≡ word q (pairFinal a b n))

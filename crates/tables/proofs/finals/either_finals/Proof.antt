@@ -1,5 +1,5 @@
-use mathlib.Core.Path.{_≡_, refl, sym, _∙_}
-use Prim.Native.Nat.{ℕ, _+_, _-_, _*_, _<_, _≤_}
+-- `tables::finals::either_finals` meets its contract. Assumes nothing.
+use mathlib.Core.Path.{sym, _∙_}
 use native.Mathlib.Omega.{arith}
 use mathlib.Core.Logic.{inl, inr}
 use Rattle.tables.proofs.Ends.{either-finals-on, either-finals-off}
@@ -7,11 +7,6 @@ use Rattle.tables.proofs.FinalSets.{raise-finals}
 use borrow.Author.Needs.{needs}
 use Rattle.tables.proofs.finals.either_finals.Statement.{statement}
 use Rattle.tables.proofs.finals.either_finals.Tie as tie
-use Rattle.tables.proofs.finals.either_finals.Reads as reads
-use Rattle.tables.proofs.finals.either_finals.Lts as lts
-use Rattle.bits.proofs.has.Reads as has-reads
-use Rattle.bits.proofs.with.Reads as with-reads
-use Rattle.tables.proofs.finals.raise.Reads as raise-reads
 
 raise-requires : tie.Need-raise-requires
 raise-requires c κs = search needs

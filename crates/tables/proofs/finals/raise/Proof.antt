@@ -1,9 +1,8 @@
+-- `tables::finals::raise` meets its contract. Assumes nothing.
 use Rattle.tables.proofs.FinalSets.{shifted}
 use borrow.Author.Needs.{needs}
 use Rattle.tables.proofs.finals.raise.Statement.{statement}
 use Rattle.tables.proofs.finals.raise.Tie as tie
-use Rattle.tables.proofs.finals.raise.Reads as reads
-use Rattle.tables.proofs.finals.raise.Lts as lts
 
 shl-result : tie.Need-shl-result
 shl-result c = search needs

@@ -1,15 +1,11 @@
-use mathlib.Core.Path.{_≡_, refl, sym, _∙_}
-use Prim.Native.Nat.{ℕ, _+_, _-_, _*_, _<_, _≤_}
+-- `tables::finals::then_finals` meets its contract. Assumes nothing.
+use mathlib.Core.Path.{sym, _∙_}
 use native.Mathlib.Omega.{arith}
 use Rattle.tables.proofs.Ends.{then-finals-on, then-finals-off}
 use Rattle.tables.proofs.FinalSets.{raise-finals}
 use borrow.Author.Needs.{needs}
 use Rattle.tables.proofs.finals.then_finals.Statement.{statement}
 use Rattle.tables.proofs.finals.then_finals.Tie as tie
-use Rattle.tables.proofs.finals.then_finals.Reads as reads
-use Rattle.tables.proofs.finals.then_finals.Lts as lts
-use Rattle.bits.proofs.has.Reads as has-reads
-use Rattle.tables.proofs.finals.raise.Reads as raise-reads
 
 raise-requires : tie.Need-raise-requires
 raise-requires c κs = search needs

@@ -1,5 +1,6 @@
-use mathlib.Core.Path.{_≡_, refl, sym, ap₂, _∙_}
-use Prim.Native.Nat.{ℕ, _+_, _-_, _*_, _<_, _≤_}
+-- `tables::finals::within_finals` meets its contract. Assumes nothing.
+use mathlib.Core.Path.{ap₂}
+use Prim.Native.Nat.{ℕ, _+_, _*_}
 use native.Mathlib.Omega.{arith}
 use Rattle.rules.specs.declared.kinds.Pair.the-variants.{Then, Both}
 use Rattle.rules.specs.Definition1.{two}
@@ -9,11 +10,6 @@ use Rattle.tables.proofs.FinalSets.{any-set}
 use borrow.Author.Needs.{needs}
 use Rattle.tables.proofs.finals.within_finals.Statement.{statement}
 use Rattle.tables.proofs.finals.within_finals.Tie as tie
-use Rattle.tables.proofs.finals.within_finals.Reads as reads
-use Rattle.tables.proofs.finals.within_finals.Lts as lts
-use Rattle.tables.proofs.finals.both_finals.Reads as both-finals-reads
-use Rattle.tables.proofs.finals.either_finals.Reads as either-finals-reads
-use Rattle.tables.proofs.finals.then_finals.Reads as then-finals-reads
 
 add-left : tie.Need-add-left
 add-left c = search needs

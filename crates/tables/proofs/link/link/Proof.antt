@@ -1,16 +1,13 @@
-use mathlib.Core.Path.{_≡_, refl, sym, ap, ap₂, _∙_}
-use Prim.Native.Nat.{ℕ, _+_, _*_, _-_, _<_, _≤_}
+-- `tables::link::link` meets its contract. Assumes nothing.
+use mathlib.Core.Path.{_≡_, refl}
+use Prim.Native.Nat.{_-_, _≤_}
 use native.Mathlib.Omega.{arith}
 use lib.ListN.{length}
-use Rattle.tables.specs.Table.{cell}
-use Rattle.tables.specs.Cells.{Put, In, linked}
+use Rattle.tables.specs.Cells.{Put, linked}
 use Rattle.tables.proofs.Puts.{put-as, put-none}
 use Rattle.tables.proofs.Linking.{link-step}
 use Rattle.tables.proofs.link.link.Statement.{statement}
 use Rattle.tables.proofs.link.link.Tie as tie
-use Rattle.tables.proofs.link.link.Reads as reads
-use Rattle.tables.proofs.link.link.Lts as lts
-use Rattle.tables.proofs.link.link_row.Reads as link-row-reads
 
 abbrev Inv-loop : tie.InvT-loop
 Inv-loop t₀ from to src hi finals p₀ t p =

@@ -1,19 +1,12 @@
-use mathlib.Core.Path.{_≡_, refl, sym, ap, ap₂, _∙_}
-use Prim.Native.Nat.{ℕ, _+_, _*_, _-_, _<_, _≤_}
+-- `tables::link::link_row` meets its contract. Assumes nothing.
+use mathlib.Core.Path.{_≡_, refl, sym, ap, _∙_}
 use native.Mathlib.Omega.{arith}
-use lib.ListN.{length}
 use Rattle.bits.specs.Word.{bit}
-use Rattle.tables.specs.Table.{cell}
-use Rattle.tables.specs.Cells.{Put, In, linked}
 use Rattle.tables.proofs.Puts.{put-as, put-keep}
 use Rattle.tables.proofs.Linking.{linked-final, linked-plain}
 use borrow.Author.Needs.{needs}
 use Rattle.tables.proofs.link.link_row.Statement.{statement}
 use Rattle.tables.proofs.link.link_row.Tie as tie
-use Rattle.tables.proofs.link.link_row.Reads as reads
-use Rattle.tables.proofs.link.link_row.Lts as lts
-use Rattle.bits.proofs.has.Reads as has-reads
-use Rattle.tables.proofs.link.unite_row.Reads as unite-row-reads
 
 has-requires : tie.Need-has-requires
 has-requires c κs = search needs

@@ -1,19 +1,14 @@
 -- `tables::or_row`: the columns from src up to q are united. The measure is what is left of the columns.
-use mathlib.Core.Path.{_≡_, refl, sym, ap, ap₂, _∙_}
-use Prim.Native.Nat.{ℕ, _+_, _*_, _-_, _<_, _≤_}
+use mathlib.Core.Path.{_≡_, refl, ap₂, _∙_}
+use Prim.Native.Nat.{_+_, _-_, _≤_}
 use native.Mathlib.Omega.{arith}
 use lib.ListN.{length}
 use lib.Bits.{bitOr}
-use borrow.Author.Needs.{needs}
 use Rattle.tables.specs.Table.{cell}
 use Rattle.tables.specs.Cells.{Put}
 use Rattle.tables.proofs.Puts.{put-none, put-step, put-as}
 use Rattle.tables.proofs.link.unite_row.Statement.{statement}
 use Rattle.tables.proofs.link.unite_row.Tie as tie
-use Rattle.tables.proofs.link.unite_row.Reads as reads
-use Rattle.tables.proofs.link.unite_row.Lts as lts
-use Rattle.tables.proofs.cells.get.Reads as get-reads
-use Rattle.tables.proofs.cells.put.Reads as put-reads
 
 abbrev Inv-loop : tie.InvT-loop
 Inv-loop t₀ p src hi q₀ t q =

@@ -1,16 +1,13 @@
-use mathlib.Core.Path.{_≡_, refl, sym, ap, ap₂, _∙_}
-use Prim.Native.Nat.{ℕ, _+_, _*_, _-_, _<_, _≤_}
+-- `tables::overlap::overlap` meets its contract. Assumes nothing.
+use mathlib.Core.Path.{_≡_, refl}
+use Prim.Native.Nat.{_-_, _≤_}
 use native.Mathlib.Omega.{arith}
 use lib.ListN.{length}
-use Rattle.tables.specs.Table.{cell}
-use Rattle.tables.specs.Cells.{Put, In, overlapped}
+use Rattle.tables.specs.Cells.{Put, overlapped}
 use Rattle.tables.proofs.Puts.{put-as, put-none}
 use Rattle.tables.proofs.Overlapping.{overlap-down}
 use Rattle.tables.proofs.overlap.overlap.Statement.{statement}
 use Rattle.tables.proofs.overlap.overlap.Tie as tie
-use Rattle.tables.proofs.overlap.overlap.Reads as reads
-use Rattle.tables.proofs.overlap.overlap.Lts as lts
-use Rattle.tables.proofs.overlap.overlap_row.Reads as overlap-row-reads
 
 abbrev Inv-loop : tie.InvT-loop
 Inv-loop t₀ a b hi finals p₀ t p =

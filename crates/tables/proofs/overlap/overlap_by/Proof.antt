@@ -1,20 +1,9 @@
-use mathlib.Core.Path.{_≡_, refl, sym, ap, ap₂, _∙_}
-use Prim.Native.Nat.{ℕ, _+_, _*_, _-_, _<_, _≤_}
-use native.Mathlib.Omega.{arith}
-use lib.ListN.{length}
-use lib.Bits.{bitOr, bitAnd}
-use Rattle.bits.specs.Word.{bit}
-use Rattle.tables.specs.Table.{cell}
-use Rattle.tables.specs.Cells.{Put, In}
+-- `tables::overlap::overlap_by` meets its contract. Assumes nothing.
+use mathlib.Core.Path.{sym, _∙_}
 use Rattle.tables.proofs.Overlapping.{one-put, one-keep}
 use borrow.Author.Needs.{needs}
 use Rattle.tables.proofs.overlap.overlap_by.Statement.{statement}
 use Rattle.tables.proofs.overlap.overlap_by.Tie as tie
-use Rattle.tables.proofs.overlap.overlap_by.Reads as reads
-use Rattle.tables.proofs.overlap.overlap_by.Lts as lts
-use Rattle.tables.proofs.cells.get.Reads as get-reads
-use Rattle.bits.proofs.has.Reads as has-reads
-use Rattle.tables.proofs.overlap.unite_part.Reads as unite-part-reads
 
 has-requires : tie.Need-has-requires
 has-requires c κs = search needs

@@ -1,16 +1,13 @@
-use mathlib.Core.Path.{_≡_, refl, sym, ap, ap₂, _∙_}
-use Prim.Native.Nat.{ℕ, _+_, _*_, _-_, _<_, _≤_}
+-- `tables::overlap::overlap_row` meets its contract. Assumes nothing.
+use mathlib.Core.Path.{_≡_, refl, sym}
+use Prim.Native.Nat.{_+_, _-_, _≤_}
 use native.Mathlib.Omega.{arith}
 use lib.ListN.{length}
-use Rattle.tables.specs.Table.{cell}
-use Rattle.tables.specs.Cells.{Put, In, overlapped}
+use Rattle.tables.specs.Cells.{Put, overlapped}
 use Rattle.tables.proofs.Puts.{put-keep}
 use Rattle.tables.proofs.Overlapping.{overlapped-none, overlap-step, overlap-done}
 use Rattle.tables.proofs.overlap.overlap_row.Statement.{statement}
 use Rattle.tables.proofs.overlap.overlap_row.Tie as tie
-use Rattle.tables.proofs.overlap.overlap_row.Reads as reads
-use Rattle.tables.proofs.overlap.overlap_row.Lts as lts
-use Rattle.tables.proofs.overlap.overlap_by.Reads as overlap-by-reads
 
 abbrev Inv-loop : tie.InvT-loop
 Inv-loop t₀ p a b hi finals f₀ t f =

@@ -1,17 +1,14 @@
-use mathlib.Core.Path.{_≡_, refl, sym, ap, ap₂, _∙_}
-use Prim.Native.Nat.{ℕ, _+_, _*_, _-_, _<_, _≤_}
+-- `tables::overlap::unite_part` meets its contract. Assumes nothing.
+use mathlib.Core.Path.{_≡_, refl, ap, ap₂, _∙_}
+use Prim.Native.Nat.{_+_, _-_, _≤_}
 use native.Mathlib.Omega.{arith}
 use lib.ListN.{length}
 use lib.Bits.{bitOr, bitAnd}
 use Rattle.tables.specs.Table.{cell}
-use Rattle.tables.specs.Cells.{Put, In}
+use Rattle.tables.specs.Cells.{Put}
 use Rattle.tables.proofs.Puts.{put-none, put-step, put-as}
 use Rattle.tables.proofs.overlap.unite_part.Statement.{statement}
 use Rattle.tables.proofs.overlap.unite_part.Tie as tie
-use Rattle.tables.proofs.overlap.unite_part.Reads as reads
-use Rattle.tables.proofs.overlap.unite_part.Lts as lts
-use Rattle.tables.proofs.cells.get.Reads as get-reads
-use Rattle.tables.proofs.cells.put.Reads as put-reads
 
 abbrev Inv-loop : tie.InvT-loop
 Inv-loop t₀ p x src hi q₀ t q =

@@ -1,15 +1,13 @@
-use mathlib.Core.Path.{_≡_, refl, sym, ap, ap₂, _∙_}
-use Prim.Native.Nat.{ℕ, _+_, _*_, _-_, _<_, _≤_}
+-- `tables::product::copy` meets its contract. Assumes nothing.
+use mathlib.Core.Path.{_≡_, refl}
+use Prim.Native.Nat.{_-_, _≤_}
 use native.Mathlib.Omega.{arith}
 use lib.ListN.{length}
 use Rattle.tables.specs.Table.{cell}
-use Rattle.tables.specs.Cells.{Put, In, paired}
+use Rattle.tables.specs.Cells.{Put}
 use Rattle.tables.proofs.Puts.{put-none, put-down, put-as}
 use Rattle.tables.proofs.product.copy.Statement.{statement}
 use Rattle.tables.proofs.product.copy.Tie as tie
-use Rattle.tables.proofs.product.copy.Reads as reads
-use Rattle.tables.proofs.product.copy.Lts as lts
-use Rattle.tables.proofs.product.copy_row.Reads as copy-row-reads
 
 abbrev Inv-loop : tie.InvT-loop
 Inv-loop t₀ from lo hi p₀ t p =

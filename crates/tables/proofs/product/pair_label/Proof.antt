@@ -1,23 +1,19 @@
-use mathlib.Core.Path.{_≡_, refl, sym, ap, ap₂, _∙_}
-use Prim.Native.Nat.{ℕ, _+_, _*_, _-_, _/_, _%_, _<_, _≤_}
+-- `tables::product::pair_label` meets its contract. Assumes nothing.
+use mathlib.Core.Path.{refl, ap₂}
+use Prim.Native.Nat.{_-_, _/_, _%_, _<_}
 use native.Mathlib.Omega.{arith}
-use lib.ListN.{length}
 use lib.Bits.{bitAnd}
-use Rattle.tables.specs.Table.{cell}
-use Rattle.tables.specs.Cells.{Put, In, paired}
+use Rattle.tables.specs.Cells.{paired}
 use Rattle.tables.proofs.Pairing.{part}
 use borrow.Author.Needs.{needs}
 use Rattle.tables.proofs.product.pair_label.Statement.{statement}
 use Rattle.tables.proofs.product.pair_label.Tie as tie
-use Rattle.tables.proofs.product.pair_label.Reads as reads
-use Rattle.tables.proofs.product.pair_label.Lts as lts
-use Rattle.tables.proofs.cells.get.Reads as get-reads
 
 i-part : (c : tie.Start) → ((c .args .p - c .args .base) / c .args .n < c .args .m) × ((c .args .p - c .args .base) % c .args .n < c .args .n)
-i-part c = part _ _ _ _ (c .pre .1) (omega arith) (omega arith)
+i-part c = part _ _ _ _ refl (omega arith) (omega arith)
 
 j-part : (c : tie.Start) → ((c .args .q - c .args .base) / c .args .n < c .args .m) × ((c .args .q - c .args .base) % c .args .n < c .args .n)
-j-part c = part _ _ _ _ (c .pre .1) (omega arith) (omega arith)
+j-part c = part _ _ _ _ refl (omega arith) (omega arith)
 
 sub-i : tie.Need-sub-i
 sub-i c = search needs

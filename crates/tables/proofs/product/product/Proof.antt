@@ -1,3 +1,4 @@
+-- `tables::product::product` meets its contract. Assumes nothing.
 use mathlib.Core.Path.{refl}
 use native.Mathlib.Omega.{arith}
 use Rattle.tables.proofs.Puts.{put-as}
@@ -5,10 +6,6 @@ use Rattle.tables.proofs.Pairing.{paired-copied}
 use borrow.Author.Needs.{needs}
 use Rattle.tables.proofs.product.product.Statement.{statement}
 use Rattle.tables.proofs.product.product.Tie as tie
-use Rattle.tables.proofs.product.product.Reads as reads
-use Rattle.tables.proofs.product.product.Lts as lts
-use Rattle.tables.proofs.product.copy.Reads as copy-reads
-use Rattle.tables.proofs.product.product_rows.Reads as product-rows-reads
 
 slice-aggregate-copy : tie.Need-slice-aggregate-copy
 slice-aggregate-copy c = search needs
@@ -24,9 +21,6 @@ copy-requires c κs = search needs
 
 slice-aggregate-product-rows : tie.Need-slice-aggregate-product-rows
 slice-aggregate-product-rows c = search needs
-
-mul-product-rows : tie.Need-mul-product-rows
-mul-product-rows c = search needs
 
 product-rows-requires : tie.Need-product-rows-requires
 product-rows-requires c κs = search needs
@@ -50,7 +44,6 @@ product-spec =
     add-copy-2
     copy-requires
     slice-aggregate-product-rows
-    mul-product-rows
     product-rows-requires
     same-length
     returns)

@@ -1,23 +1,22 @@
-use mathlib.Core.Path.{_≡_, refl, sym, ap, ap₂, _∙_}
-use Prim.Native.Nat.{ℕ, _+_, _*_, _-_, _<_, _≤_}
+-- `tables::product::product_row` meets its contract. Assumes nothing.
+use mathlib.Core.Path.{_≡_, refl}
+use Prim.Native.Nat.{_+_, _-_, _≤_}
 use native.Mathlib.Omega.{arith}
 use lib.ListN.{length}
-use Rattle.tables.specs.Table.{cell}
-use Rattle.tables.specs.Cells.{Put, In, paired}
+use Rattle.tables.specs.Cells.{Put, paired}
 use Rattle.tables.proofs.Puts.{put-none, put-step, put-as}
 use Rattle.tables.proofs.product.product_row.Statement.{statement}
 use Rattle.tables.proofs.product.product_row.Tie as tie
-use Rattle.tables.proofs.product.product_row.Reads as reads
-use Rattle.tables.proofs.product.product_row.Lts as lts
-use Rattle.tables.proofs.product.pair_label.Reads as pair-label-reads
-use Rattle.tables.proofs.cells.put.Reads as put-reads
 
 abbrev Inv-loop : tie.InvT-loop
-Inv-loop t₀ old base m n w p hi q₀ t q =
+Inv-loop t₀ old base m n p hi q₀ t q =
     (base ≤ q) × (q ≤ hi) × (length t ≡ length t₀) × Put t₀ t p (p + 1) base q (paired old base m n)
 
 abbrev μ-loop : tie.MeasureT-loop
-μ-loop t₀ old base m n w p hi q₀ t q = hi - q
+μ-loop t₀ old base m n p hi q₀ t q = hi - q
+
+mul-hi : tie.Need-mul-hi Inv-loop μ-loop
+mul-hi c = omega arith
 
 add-hi : tie.Need-add-hi Inv-loop μ-loop
 add-hi c = omega arith
@@ -60,6 +59,7 @@ product-row-spec =
     (tie.spec
     Inv-loop
     μ-loop
+    mul-hi
     add-hi
     loop-holds
     pair-label-requires

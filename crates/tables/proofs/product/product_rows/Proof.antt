@@ -1,22 +1,22 @@
-use mathlib.Core.Path.{_≡_, refl, sym, ap, ap₂, _∙_}
-use Prim.Native.Nat.{ℕ, _+_, _*_, _-_, _<_, _≤_}
+-- `tables::product::product_rows` meets its contract. Assumes nothing.
+use mathlib.Core.Path.{_≡_, refl}
+use Prim.Native.Nat.{_+_, _*_, _-_, _≤_}
 use native.Mathlib.Omega.{arith}
 use lib.ListN.{length}
-use Rattle.tables.specs.Table.{cell}
-use Rattle.tables.specs.Cells.{Put, In, paired}
+use Rattle.tables.specs.Cells.{Put, paired}
 use Rattle.tables.proofs.Puts.{put-none, put-down, put-as}
 use Rattle.tables.proofs.product.product_rows.Statement.{statement}
 use Rattle.tables.proofs.product.product_rows.Tie as tie
-use Rattle.tables.proofs.product.product_rows.Reads as reads
-use Rattle.tables.proofs.product.product_rows.Lts as lts
-use Rattle.tables.proofs.product.product_row.Reads as product-row-reads
 
 abbrev Inv-loop : tie.InvT-loop
-Inv-loop t₀ old base m n w hi p₀ t p =
-    (base ≤ p) × (p ≤ hi) × (length t ≡ length t₀) × Put t₀ t base p base (base + w) (paired old base m n)
+Inv-loop t₀ old base m n hi p₀ t p =
+    (base ≤ p) × (p ≤ hi) × (length t ≡ length t₀) × Put t₀ t base p base (base + m * n) (paired old base m n)
 
 abbrev μ-loop : tie.MeasureT-loop
-μ-loop t₀ old base m n w hi p₀ t p = hi - p
+μ-loop t₀ old base m n hi p₀ t p = hi - p
+
+mul-hi : tie.Need-mul-hi Inv-loop μ-loop
+mul-hi c = omega arith
 
 add-hi : tie.Need-add-hi Inv-loop μ-loop
 add-hi c = omega arith
@@ -55,6 +55,7 @@ product-rows-spec =
     (tie.spec
     Inv-loop
     μ-loop
+    mul-hi
     add-hi
     loop-holds
     product-row-requires

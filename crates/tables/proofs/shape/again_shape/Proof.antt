@@ -1,14 +1,8 @@
-use mathlib.Core.Path.{_≡_, refl, sym, ap, ap₂, _∙_}
-use Prim.Native.Nat.{ℕ, _+_, _-_, _*_, _<_, _≤_}
-use native.Mathlib.Omega.{arith}
-use Rattle.tables.specs.Shapes.{ShapeOf}
+-- `tables::shape::again_shape` meets its contract. Assumes nothing.
 use Rattle.tables.proofs.Ends.{plus-finals, star-finals}
 use borrow.Author.Needs.{needs}
 use Rattle.tables.proofs.shape.again_shape.Statement.{statement}
 use Rattle.tables.proofs.shape.again_shape.Tie as tie
-use Rattle.tables.proofs.shape.again_shape.Reads as reads
-use Rattle.tables.proofs.shape.again_shape.Lts as lts
-use Rattle.bits.proofs.with.Reads as with-reads
 
 enum-told : tie.Need-enum-told
 enum-told c = search needs

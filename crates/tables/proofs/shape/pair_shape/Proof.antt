@@ -1,19 +1,12 @@
-use mathlib.Core.Path.{_≡_, refl, sym, ap, ap₂, _∙_}
-use Prim.Native.Nat.{ℕ, _+_, _-_, _*_, _<_, _≤_}
+-- `tables::shape::pair_shape` meets its contract. Assumes nothing.
+use mathlib.Core.Path.{ap₂}
+use Prim.Native.Nat.{ℕ, _+_, _*_}
 use native.Mathlib.Omega.{arith}
-use Rattle.tables.specs.Shapes.{ShapeOf}
 use Rattle.tables.proofs.Ends.{overlap-finals}
 use Rattle.tables.proofs.FinalSets.{raise-finals}
 use borrow.Author.Needs.{needs}
 use Rattle.tables.proofs.shape.pair_shape.Statement.{statement}
 use Rattle.tables.proofs.shape.pair_shape.Tie as tie
-use Rattle.tables.proofs.shape.pair_shape.Reads as reads
-use Rattle.tables.proofs.shape.pair_shape.Lts as lts
-use Rattle.tables.proofs.finals.both_finals.Reads as both-finals-reads
-use Rattle.tables.proofs.finals.either_finals.Reads as either-finals-reads
-use Rattle.tables.proofs.finals.raise.Reads as raise-reads
-use Rattle.tables.proofs.finals.then_finals.Reads as then-finals-reads
-use Rattle.tables.proofs.finals.within_finals.Reads as within-finals-reads
 
 enum-told : tie.Need-enum-told
 enum-told c = search needs

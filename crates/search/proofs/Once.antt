@@ -1,0 +1,157 @@
+-- No second answer and no second content of the lent slices fit the promise of `search`. Assumes nothing.
+use Prim.Native.Nat.{ℕ, _<_, _≤_}
+use native.Mathlib.Omega.{arith}
+use mathlib.Core.Path.{_≡_, refl, sym, ap, ap₂, subst, _∙_}
+use mathlib.Core.List.{List}
+use lib.Dec.{eqb}
+use lib.ListN.{length}
+use Rattle.rules.specs.declared.Refusal as rule-refusal
+use Rattle.rules.specs.declared.Refusal.the-variants as rule-refusal-of
+use Rattle.rules.specs.Definition1.{Rule}
+use Rattle.rules.specs.Kinds.{pick}
+use Rattle.rules.specs.Weight.{weightOf}
+use Rattle.rules.specs.Refusals as rule-refusals
+use Rattle.rules.specs.Answer as rules
+use Rattle.rules.specs.Answer.{AcceptedAs, knownOf}
+use Rattle.rules.proofs.Accepting.{accepted-answer, accepted-once}
+use Rattle.tables.specs.declared.TableAnswer.{TableAnswer}
+use Rattle.tables.specs.declared.TableAnswer.the-variants.{Tabled}
+use Rattle.tables.specs.Table.{tableOf}
+use Rattle.tables.specs.IsTable.{Words}
+use Rattle.tables.specs.Answer as tables
+use Rattle.tables.proofs.Once as tables-once
+use Rattle.models.specs.declared.Refusal as model-refusal
+use Rattle.models.specs.declared.Refusal.the-variants as model-refusal-of
+use Rattle.models.specs.Model.{Model}
+use Rattle.models.specs.Answer as models
+use Rattle.search.specs.declared.inner.Searched.the-variants.{Found, Nothing}
+use Rattle.search.specs.declared.SearchAnswer.{SearchAnswer}
+use Rattle.search.specs.declared.SearchAnswer.the-variants.{Answered, RuleRefused, ModelRefused, ShortSlice}
+use Rattle.search.specs.Right.{Answer, found, nothing, Right}
+use Rattle.search.specs.Answer.{Slices, slices, LongEnough, Result, answered, refused, lengthOf, told, Output, Searches, SearchRight, rule-refused, model-refused, short-slice, searched}
+use Rattle.search.proofs.Unique.{one-answer, cleared-same, runs-same}
+
+-- ---- one result
+
+module _ (s g : List ℕ) where
+  rule-both : (n p : ℕ) (f : Rule) → rules.answer s ≡ rules.refused n p → AcceptedAs s f → ⊥
+  rule-both n p f q a =
+      let e : rules.answer s ≡ rules.accepted (knownOf f) = accepted-answer s f a in
+      let z : _≡_ {A = ℕ} 0 1 = cc in
+      omega arith
+
+  model-both : (n p : ℕ) → models.answer g .verdict ≡ models.refused n p → models.answer g .verdict ≡ models.accepted → ⊥
+  model-both n p q a = let z : _≡_ {A = ℕ} 0 1 = cc in omega arith
+
+output-same : (r : Answer) (run run₁ run₂ : List ℕ) → Output r run run₁ → Output r run run₂ → run₁ ≡ run₂
+output-same (found r c) run run₁ run₂ x y = runs-same (length r) run run₁ run₂ (x .1) (y .1) (x .0 ∙ sym (y .0))
+output-same (nothing c) run run₁ run₂ x y = x ∙ sym y
+
+-- two searches over one rule and one model
+module _ (s : List ℕ) (M : Model) (b a d : Slices) (long : LongEnough b) (ha : Words (a .table)) (hd : Words (d .table)) (r r′ : Answer) (x : Searches s M b a r) (y : Searches s M b d r′) where
+  rule-same : x .meant ≡ y .meant
+  rule-same = accepted-once s (x .meant) (y .meant) (x .accepted) (y .accepted)
+
+  tables-same : (Tabled (knownOf (x .meant)) (x .finals) ≡ Tabled (knownOf (y .meant)) (y .finals)) × (a .table ≡ d .table)
+  tables-same =
+      tables-once.one-answer s (b .table) (a .table) (d .table) (Tabled (knownOf (x .meant)) (x .finals)) (Tabled (knownOf (y .meant)) (y .finals)) ha hd
+      (tables.the-table (x .accepted) (long .table-long) (x .finals-small) (x .table) (x .table-past))
+      (tables.the-table (y .accepted) (long .table-long) (y .finals-small) (y .table) (y .table-past))
+
+  finals-same : x .finals ≡ y .finals
+  finals-same = let e = tables-same .0 in cc
+
+  right-same : Right M (tableOf (a .table) (weightOf (x .meant)) (x .finals)) (x .meant) r′
+  right-same =
+      subst (λ (f : Rule). Right M (tableOf (a .table) (weightOf f) (x .finals)) f r′) (sym rule-same)
+      (subst (λ (n : ℕ). Right M (tableOf (a .table) (weightOf (y .meant)) n) (y .meant) r′) (sym finals-same)
+      (subst (λ (t : List ℕ). Right M (tableOf t (weightOf (y .meant)) (y .finals)) (y .meant) r′) (sym (tables-same .1)) (y .right)))
+
+  answer-same : r ≡ r′
+  answer-same = one-answer M (tableOf (a .table) (weightOf (x .meant)) (x .finals)) (x .meant) r r′ (x .right) right-same
+
+  slices-same : a ≡ d
+  slices-same =
+      let m : a .marks ≡ d .marks = cleared-same 4096 (b .marks) (a .marks) (d .marks) (x .marks-clear) (y .marks-clear) in
+      let u : a .useful ≡ d .useful = cleared-same 4096 (b .useful) (a .useful) (d .useful) (x .useful-clear) (y .useful-clear) in
+      let o : Output r (b .run) (d .run) = subst (λ (z : Answer). Output z (b .run) (d .run)) (sym answer-same) (y .output) in
+      let v : a .run ≡ d .run = output-same r (b .run) (a .run) (d .run) (x .output) o in
+      ap₂ (λ (t w : List ℕ). slices t w (a .useful) (a .run)) (tables-same .1) m ∙ ap₂ (λ (t w : List ℕ). slices (d .table) (d .marks) t w) u v
+
+module _ (s g : List ℕ) (b a d : Slices) (ha : Words (a .table)) (hd : Words (d .table)) where
+  one-result : {x y : Result} → SearchRight s g b a x → SearchRight s g b d y → (x ≡ y) × (a ≡ d)
+  one-result (rule-refused q e) (rule-refused q′ e′) = (cc, e ∙ sym e′)
+  one-result (rule-refused q e) (model-refused f v e′) = absurd (rule-both s g _ _ _ q f)
+  one-result (rule-refused q e) (short-slice f v l e′) = absurd (rule-both s g _ _ _ q f)
+  one-result (rule-refused q e) (searched k v l z) = absurd (rule-both s g _ _ _ q (z .accepted))
+  one-result (model-refused f v e) (rule-refused q e′) = absurd (rule-both s g _ _ _ q f)
+  one-result (model-refused f v e) (model-refused f′ v′ e′) = (cc, e ∙ sym e′)
+  one-result (model-refused f v e) (short-slice f′ v′ l e′) = absurd (model-both s g _ _ v v′)
+  one-result (model-refused f v e) (searched k v′ l z) = absurd (model-both s g _ _ v v′)
+  one-result (short-slice f v l e) (rule-refused q e′) = absurd (rule-both s g _ _ _ q f)
+  one-result (short-slice f v l e) (model-refused f′ v′ e′) = absurd (model-both s g _ _ v′ v)
+  one-result (short-slice f v l e) (short-slice f′ v′ l′ e′) = (refl, e ∙ sym e′)
+  one-result (short-slice f v l e) (searched k v′ l′ z) = absurd (l l′)
+  one-result (searched k v l z) (rule-refused q e) = absurd (rule-both s g _ _ _ q (z .accepted))
+  one-result (searched k v l z) (model-refused f v′ e) = absurd (model-both s g _ _ v′ v)
+  one-result (searched k v l z) (short-slice f v′ l′ e) = absurd (l′ l)
+  one-result (searched {r = r} k v l z) (searched {r = r′} k′ v′ l′ z′) =
+      let e : r ≡ r′ = answer-same s _ b a d l ha hd r r′ z z′ in
+      (ap₂ answered (k ∙ ap lengthOf e ∙ sym k′) e, slices-same s _ b a d l ha hd r r′ z z′)
+
+-- ---- `told` loses nothing
+
+abbrev modelRefusal : ℕ → ℕ → SearchAnswer
+modelRefusal n p =
+    pick (eqb n 11) (ModelRefused model-refusal-of.TooMany)
+    (pick (eqb n 12) (ModelRefused (model-refusal-of.WrongKind p))
+    (pick (eqb n 13) (ModelRefused (model-refusal-of.CutShort p))
+    (pick (eqb n 14) (ModelRefused (model-refusal-of.LetterTooLarge p))
+    (pick (eqb n 15) (ModelRefused (model-refusal-of.WrongFlag p))
+    (pick (eqb n 16) (ModelRefused (model-refusal-of.NoSuchState p)) ShortSlice)))))
+
+abbrev refusalOf : ℕ → ℕ → SearchAnswer
+refusalOf n p =
+    pick (eqb n 1) (RuleRefused rule-refusal-of.TooLong)
+    (pick (eqb n 2) (RuleRefused (rule-refusal-of.Ended p))
+    (pick (eqb n 3) (RuleRefused (rule-refusal-of.UnknownKind p))
+    (pick (eqb n 4) (RuleRefused (rule-refusal-of.WrongSort p))
+    (pick (eqb n 5) (RuleRefused (rule-refusal-of.NoProposition p))
+    (pick (eqb n 6) (RuleRefused (rule-refusal-of.Leftover p))
+    (pick (eqb n 7) (RuleRefused rule-refusal-of.TooHeavy) (modelRefusal n p)))))))
+
+abbrev meant : Result → SearchAnswer
+meant (answered n (found r c)) = Answered (Found n c)
+meant (answered n (nothing c)) = Answered (Nothing c)
+meant (refused n p) = refusalOf n p
+
+meant-rule : (x : rule-refusal.Refusal) → refusalOf (rule-refusals.number x) (rule-refusals.place x) ≡ RuleRefused x
+meant-rule rule-refusal-of.TooLong = refl
+meant-rule (rule-refusal-of.Ended p) = refl
+meant-rule (rule-refusal-of.UnknownKind p) = refl
+meant-rule (rule-refusal-of.WrongSort p) = refl
+meant-rule (rule-refusal-of.NoProposition p) = refl
+meant-rule (rule-refusal-of.Leftover p) = refl
+meant-rule rule-refusal-of.TooHeavy = refl
+
+meant-model : (x : model-refusal.Refusal) → refusalOf (models.number x) (models.place x) ≡ ModelRefused x
+meant-model model-refusal-of.TooMany = refl
+meant-model (model-refusal-of.WrongKind p) = refl
+meant-model (model-refusal-of.CutShort p) = refl
+meant-model (model-refusal-of.LetterTooLarge p) = refl
+meant-model (model-refusal-of.WrongFlag p) = refl
+meant-model (model-refusal-of.NoSuchState p) = refl
+
+meant-told : (x : SearchAnswer) (run : List ℕ) → meant (told x run) ≡ x
+meant-told (Answered (Found l c)) run = refl
+meant-told (Answered (Nothing c)) run = refl
+meant-told (RuleRefused x) run = meant-rule x
+meant-told (ModelRefused x) run = meant-model x
+meant-told ShortSlice run = refl
+
+-- two answers that fit are one, and so are the slices that they leave
+pub one-search-answer : (s g : List ℕ) (b a d : Slices) (x y : SearchAnswer) → Words (a .table) → Words (d .table)
+    → SearchRight s g b a (told x (a .run)) → SearchRight s g b d (told y (d .run)) → (x ≡ y) × (a ≡ d)
+one-search-answer s g b a d x y ha hd p q =
+    let o = one-result s g b a d ha hd p q in
+    (sym (meant-told x (a .run)) ∙ ap meant (o .0) ∙ meant-told y (d .run), o .1)

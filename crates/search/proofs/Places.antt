@@ -1,0 +1,48 @@
+-- Marks as the code stores and reads them. Assumes nothing.
+use Prim.Native.Nat.{ℕ, _+_, _^_, _≤_, _<_}
+use mathlib.Core.Path.{_≡_, refl, ap, sym, subst, _∙_}
+use mathlib.Core.Bool.{not}
+use mathlib.Core.List.{List}
+use native.Mathlib.Decide.{ℕ-discrete}
+use native.Mathlib.Nat.{lt-of-le-of-lt}
+use native.Mathlib.Omega.{arith}
+use native.Mathlib.Numerals.{add-one}
+use borrow.Author.Tests.{lt-ltb, ltb-true}
+use lib.Bits.{bitAnd, and-le-l}
+use lib.Dec.{ltb, eqb}
+use lib.ListN.{length, getD, set, length-set}
+use lib.Seq.{getD-set-same, getD-set-other}
+use Rattle.bits.specs.Word.{bit}
+use Rattle.bits.specs.Says.{Says}
+use Rattle.search.specs.Lent.{Cleared}
+use Rattle.search.specs.Passes.{Members, OnLevel, Step, FinalIn, finalOf}
+use Rattle.search.proofs.Members.{T-true, true-T, T-and, and-T, says-same, says-any, members-and, members-bits}
+use Rattle.search.proofs.Steps.{step-one}
+
+pub mark-one : (j : ℕ) (a : List ℕ) (at : ℕ) → at < 4096 → 4096 ≤ length a → getD a at 0 ≡ 0 → Step j a (set a at (j + 1)) (λ i. i ≡ at) 1
+mark-one j a at l h z = subst (λ (v : ℕ). Step j a (set a at v) (λ i. i ≡ at) 1) (sym (add-one j)) (step-one j a at l h z)
+
+-- ---- clearing
+
+pub cleared-none : (a : List ℕ) → Cleared 0 a a
+cleared-none a = record { size = refl; zeros = λ i h. absurd (omega arith); rest = λ i h. refl }
+
+pub cleared-next : {a b : List ℕ} (n : ℕ) → Cleared n a b → n < length b → Cleared (n + 1) a (set b n 0)
+cleared-next {a} {b} n c h = record { size = length-set b n 0 ∙ c .size; zeros = λ i l. zeros i l (ℕ-discrete i n); rest = λ i l. getD-set-other b n i 0 0 (omega arith) ∙ c .rest i (omega arith) }
+  where
+    zeros : (i : ℕ) → i < n + 1 → Dec (i ≡ n) → getD (set b n 0) i 0 ≡ 0
+    zeros i l (yes e) = ap (λ (x : ℕ). getD (set b n 0) x 0) e ∙ getD-set-same b n 0 0 h
+    zeros i l (no e) = getD-set-other b n i 0 0 e ∙ c .zeros i (omega arith)
+
+pub cleared-end : {a b : List ℕ} {k : ℕ} → Cleared k a b → (n : ℕ) → k ≤ n → n ≤ k → Cleared n a b
+cleared-end {a} {b} {k} c n h l = let e : k ≡ n = omega arith in subst (λ (y : ℕ). Cleared y a b) e c
+
+-- ---- finals
+
+pub final-says : {w : ℕ} (n finals j s : ℕ) (m : List ℕ) → w < 2 ^ 64 → Members w (OnLevel m n j s)
+    → Says (not (eqb (bitAnd w finals) 0)) (FinalIn (finalOf n finals) m j s)
+final-says {w} n finals j s m h x =
+    says-same (says-any (lt-of-le-of-lt (and-le-l w finals) h) (members-and x (members-bits finals)))
+    (λ y. record { state = y .0; on = y .1 .0 .is; is-final = and-T (ltb (y .0) n) (bit finals (y .0)) (true-T (lt-ltb (y .0) n (y .1 .0 .below))) (y .1 .1) })
+    (λ y. let b = T-and (ltb (y .state) n) (bit finals (y .state)) (y .is-final) in
+    (y .state, (record { below = ltb-true (y .state) n (T-true (ltb (y .state) n) (b .0)); is = y .on }, b .1)))

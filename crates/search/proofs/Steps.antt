@@ -1,0 +1,114 @@
+-- Laws of `Step`: nothing, one place, one after the other. Assumes nothing.
+use Prim.Native.Nat.{ℕ, suc, _+_, _≤_, _<_}
+use mathlib.Core.Path.{_≡_, refl, ap, sym, subst, _∙_}
+use mathlib.Core.Logic.{_≢_, _↔_, _⊎_, inl, inr, ⊎-elim}
+use mathlib.Core.List.{List}
+use native.Mathlib.Omega.{arith}
+use native.Mathlib.Decide.{ℕ-discrete}
+use lib.ListN.{length, getD, set, length-set}
+use lib.Seq.{getD-set-same, getD-set-other}
+use Rattle.search.specs.Right.{Count, none, counted, passed}
+use Rattle.search.specs.Passes.{Nz, Step, Below}
+use Rattle.search.proofs.Tally.{count-map}
+
+-- one more place
+pub count-add : {P Q : ℕ → Type 0} (at : ℕ) {n k : ℕ} → Count P n k → at < n → (P at → ⊥) → Q at → ((i : ℕ) → i ≢ at → (P i ↔ Q i)) → Count Q n (suc k)
+count-add at none l no-at q f = absurd (omega arith)
+count-add {P} {Q} at (counted {n = n} {c = c} p a) l no-at q f = go (ℕ-discrete n at) (λ h. count-add at a h no-at q f)
+  where
+    go : Dec (n ≡ at) → (at < n → Count Q n (suc c)) → Count Q (suc n) (suc (suc c))
+    go (yes e) r = absurd (no-at (subst P e p))
+    go (no e) r = counted (f n e .0 p) (r (omega arith))
+count-add {P} {Q} at (passed {n = n} {c = c} p a) l no-at q f = go (ℕ-discrete n at) (λ h. count-add at a h no-at q f)
+  where
+    go : Dec (n ≡ at) → (at < n → Count Q n (suc c)) → Count Q (suc n) (suc c)
+    go (yes e) r = counted (subst Q (sym e) q) (count-map a (λ i h. f i (omega arith) .0) (λ i h. f i (omega arith) .1))
+    go (no e) r = passed (λ x. p (f n e .1 x)) (r (omega arith))
+
+pub step-none : (j : ℕ) (a : List ℕ) (S : ℕ → Type 0) → ((i : ℕ) → S i → getD a i 0 ≢ 0) → Step j a a S 0
+step-none j a S f = record {
+  size = refl;
+  only = λ i. inl refl;
+  all = f;
+  tally = λ k x. subst (λ (n : ℕ). Count (Nz a) 4096 n) (omega arith) x;
+  quiet = λ e. refl;
+  past = λ i h. refl;
+}
+
+pub step-one : (j : ℕ) (a : List ℕ) (at : ℕ) → at < 4096 → 4096 ≤ length a → getD a at 0 ≡ 0 → Step j a (set a at (suc j)) (λ i. i ≡ at) 1
+step-one j a at l h z = record {
+  size = length-set a at (suc j);
+  only = λ i. kept i (ℕ-discrete i at);
+  all = λ i e. new i e;
+  tally = λ k x. subst (λ (n : ℕ). Count (Nz (set a at (suc j))) 4096 n) (omega arith)
+      (count-add at x l (λ f. f z) (new at refl) same);
+  quiet = λ e. absurd (omega arith);
+  past = λ i e. getD-set-other a at i (suc j) 0 (omega arith);
+}
+  where
+    new : (i : ℕ) → i ≡ at → getD (set a at (suc j)) i 0 ≢ 0
+    new i e =
+        let y : getD (set a at (suc j)) at 0 ≡ suc j = getD-set-same a at (suc j) 0 (omega arith) in
+        subst (λ (x : ℕ). getD (set a at (suc j)) x 0 ≢ 0) (sym e) (omega arith)
+
+    same : (i : ℕ) → i ≢ at → (Nz a i ↔ Nz (set a at (suc j)) i)
+    same i e = let y : getD (set a at (suc j)) i 0 ≡ getD a i 0 = getD-set-other a at i (suc j) 0 e in (λ x. omega arith, λ x. omega arith)
+
+    kept : (i : ℕ) → Dec (i ≡ at) → (getD (set a at (suc j)) i 0 ≡ getD a i 0) ⊎ ((i ≡ at) × (getD a i 0 ≡ 0) × (getD (set a at (suc j)) i 0 ≡ suc j))
+    kept i (yes e) = inr (e, ap (λ (x : ℕ). getD a x 0) e ∙ z, ap (λ (x : ℕ). getD (set a at (suc j)) x 0) e ∙ getD-set-same a at (suc j) 0 (omega arith))
+    kept i (no e) = inl (getD-set-other a at i (suc j) 0 e)
+
+pub step-then : {j : ℕ} {a b d : List ℕ} {S S′ : ℕ → Type 0} {c c′ : ℕ} → Step j a b S c → Step j b d S′ c′ → (U : ℕ → Type 0)
+    → ((i : ℕ) → S i → U i) → ((i : ℕ) → S′ i → U i) → ((i : ℕ) → U i → S i ⊎ S′ i) → Step j a d U (c + c′)
+step-then {j} {a} {b} {d} {S} {S′} {c} {c′} x y U f g h = record {
+  size = y .size ∙ x .size;
+  only = λ i. either i (x .only i) (y .only i);
+  all = λ i u. ⊎-elim (λ s. stays i (x .all i s) (y .only i)) (λ s. y .all i s) (h i u);
+  tally = λ k n. subst (λ (z : ℕ). Count (Nz d) 4096 z) (omega arith) (y .tally (k + c) (x .tally k n));
+  quiet = λ e. y .quiet (omega arith) ∙ x .quiet (omega arith);
+  past = λ i e. y .past i e ∙ x .past i e;
+}
+  where
+    stays : (i : ℕ) → getD b i 0 ≢ 0 → (getD d i 0 ≡ getD b i 0) ⊎ (S′ i × (getD b i 0 ≡ 0) × (getD d i 0 ≡ suc j)) → getD d i 0 ≢ 0
+    stays i n (inl e) = omega arith
+    stays i n (inr e) = omega arith
+
+    either : (i : ℕ) → (getD b i 0 ≡ getD a i 0) ⊎ (S i × (getD a i 0 ≡ 0) × (getD b i 0 ≡ suc j)) → (getD d i 0 ≡ getD b i 0) ⊎ (S′ i × (getD b i 0 ≡ 0) × (getD d i 0 ≡ suc j))
+        → (getD d i 0 ≡ getD a i 0) ⊎ (U i × (getD a i 0 ≡ 0) × (getD d i 0 ≡ suc j))
+    either i (inl e) (inl k) = inl (k ∙ e)
+    either i (inl e) (inr k) = inr (g i (k .0), omega arith, k .2)
+    either i (inr e) (inl k) = inr (f i (e .0), e .1, k ∙ e .2)
+    either i (inr e) (inr k) = absurd (omega arith)
+
+pub step-same : {j : ℕ} {a b : List ℕ} {S : ℕ → Type 0} {c : ℕ} → Step j a b S c → (U : ℕ → Type 0) → ((i : ℕ) → S i → U i) → ((i : ℕ) → U i → S i) → Step j a b U c
+step-same {j} {a} {b} {S} x U f g = record {
+  size = x .size;
+  only = λ i. ⊎-elim (λ e. inl e) (λ e. inr (f i (e .0), e .1, e .2)) (x .only i);
+  all = λ i u. x .all i (g i u);
+  tally = x .tally;
+  quiet = x .quiet;
+  past = x .past;
+}
+
+-- a loop that goes up by one
+pub below-none : (j : ℕ) (a : List ℕ) (S : ℕ → ℕ → Type 0) → Step j a a (Below S 0) 0
+below-none j a S = step-none j a (Below S 0) (λ i e. absurd (omega (arith, e .below)))
+
+pub below-next : {j : ℕ} {a b d : List ℕ} {S : ℕ → ℕ → Type 0} {k c c′ : ℕ} → Step j a b (Below S k) c → Step j b d (S k) c′ → Step j a d (Below S (k + 1)) (c + c′)
+below-next {S = S} {k = k} x y =
+    step-then x y (Below S (k + 1)) (λ i e. record { at = e .at; below = omega (arith, e .below); holds = e .holds })
+    (λ i e. record { at = k; below = omega arith; holds = e }) (λ i e. go i e (ℕ-discrete (e .at) k))
+  where
+    go : (i : ℕ) (e : Below S (k + 1) i) → Dec (e .at ≡ k) → Below S k i ⊎ S k i
+    go i e (yes h) = inr (subst (λ (y : ℕ). S y i) h (e .holds))
+    go i e (no h) = inl (record { at = e .at; below = omega (arith, e .below); holds = e .holds })
+
+pub below-end : {j : ℕ} {a b : List ℕ} {S : ℕ → ℕ → Type 0} {k c : ℕ} → Step j a b (Below S k) c → (n : ℕ) → k ≤ n → n ≤ k → Step j a b (Below S n) c
+below-end {j} {a} {b} {S} {k} {c} x n h l = let e : k ≡ n = omega arith in subst (λ (y : ℕ). Step j a b (Below S y) c) e x
+
+-- who is on level j stays there, and nobody else comes
+pub same-level : {j : ℕ} {a b : List ℕ} {S : ℕ → Type 0} {c : ℕ} → Step j a b S c → 1 ≤ j → (i : ℕ) → ((getD b i 0 ≡ j) ↔ (getD a i 0 ≡ j))
+same-level {j} {a} {b} {S} x l i = (λ e. ⊎-elim (λ h. omega arith) (λ h. absurd (omega arith)) (x .only i), λ e. ⊎-elim (λ h. omega arith) (λ h. absurd (omega arith)) (x .only i))
+
+pub below-map : {S S′ : ℕ → ℕ → Type 0} {k i : ℕ} → ((t : ℕ) → S t i → S′ t i) → Below S k i → Below S′ k i
+below-map f e = record { at = e .at; below = e .below; holds = f (e .at) (e .holds) }

@@ -1,0 +1,5 @@
+pub mod Right
+pub mod Lent
+pub mod Told
+pub mod Answer
+pub mod Passes

@@ -1,0 +1,180 @@
+-- What the passes of the search are lent, and what each of them comes to. Assumes nothing: these are definitions.
+use Prim.Native.Nat.{ℕ, zero, suc, _+_, _*_, _≤_, _<_}
+use mathlib.Core.Path.{_≡_}
+use mathlib.Core.Bool.{Bool, true, false, _&&_}
+use mathlib.Core.Logic.{_≢_, _⊎_, _↔_}
+use mathlib.Core.List.{List}
+use lib.Dec.{T, ltb}
+use lib.ListN.{length, getD}
+use Rattle.bits.specs.Word.{bit, insert}
+use Rattle.tables.specs.Table.{Table, Accepts}
+use Rattle.models.specs.Model.{Model, Walk, spelled}
+use Rattle.search.specs.Right.{Count, Before}
+
+-- ---- sets of states in a word
+
+-- the members of the word are those that P holds of
+pub record Members (w : ℕ) (P : ℕ → Type 0) : Type 0 where
+  pub holds : (k : ℕ) → T (bit w k) → P k
+  pub has : (k : ℕ) → P k → T (bit w k)
+
+-- the word with k added if b says so
+abbrev pub addIf : ℕ → ℕ → Bool → ℕ
+addIf w k true = insert w k
+addIf w k false = w
+
+-- the numbers below n that P holds of
+pub record Under (P : ℕ → Type 0) (n k : ℕ) : Type 0 where
+  pub below : k < n
+  pub is : P k
+
+-- letter x leads to p from some table state of Q
+pub record Into (A : Table) (Q : ℕ → Type 0) (x p : ℕ) : Type 0 where
+  pub from : ℕ
+  pub held : Q from
+  pub reads : T (A .edge from x p)
+
+-- table state q of Q is led by letter x to one of P
+pub record Leads (A : Table) (Q P : ℕ → Type 0) (x q : ℕ) : Type 0 where
+  pub to : ℕ
+  pub held : Q q
+  pub kept : P to
+  pub reads : T (A .edge q x to)
+
+-- ---- marks: of the pair (s, q) at 64·s + q
+
+abbrev pub view : List ℕ → ℕ → ℕ → ℕ
+view l s q = getD l (64 * s + q) 0
+
+-- row s has table state q on level j
+abbrev pub OnLevel : List ℕ → ℕ → ℕ → ℕ → ℕ → Type 0
+OnLevel m n j s q = Under (λ q. view m s q ≡ j) n q
+
+-- a useful pair on level j
+pub record Kept (m u : List ℕ) (j s q : ℕ) : Type 0 where
+  pub on : view m s q ≡ j
+  pub useful : view u s q ≢ 0
+
+abbrev pub Nz : List ℕ → ℕ → Type 0
+Nz l i = getD l i 0 ≢ 0
+
+-- from the marks a to the marks b: of the places in S those that were 0 are marked j + 1, and there are c of them; nothing else changes
+pub record Step (j : ℕ) (a b : List ℕ) (S : ℕ → Type 0) (c : ℕ) : Type 0 where
+  pub size : length b ≡ length a
+  pub only : (i : ℕ) → (getD b i 0 ≡ getD a i 0) ⊎ (S i × (getD a i 0 ≡ 0) × (getD b i 0 ≡ suc j))
+  pub all : (i : ℕ) → S i → getD b i 0 ≢ 0
+  pub tally : (k : ℕ) → Count (Nz a) 4096 k → Count (Nz b) 4096 (k + c)
+  pub quiet : c ≡ 0 → b ≡ a
+  pub past : (i : ℕ) → 4096 ≤ i → getD b i 0 ≡ getD a i 0
+
+-- the places that some number below k stands for
+pub record Below (S : ℕ → ℕ → Type 0) (k i : ℕ) : Type 0 where
+  pub at : ℕ
+  pub below : at < k
+  pub holds : S at i
+
+-- place i is that of (t, p), and p is in P
+pub record At (P : ℕ → Type 0) (t p i : ℕ) : Type 0 where
+  pub is : P p
+  pub place : i ≡ 64 * t + p
+
+-- ---- the forward pass
+
+-- the places of row t that letter and table lead to from Q, if t is in the set `succ`
+abbrev pub Along : Table → List ℕ → ℕ → (ℕ → Type 0) → ℕ → ℕ → Type 0
+Along A letters succ Q t i = T (bit succ t) × Below (At (Into A Q (getD letters t 0)) t) (A .weight) i
+
+-- the same from the pairs of row s on level j of the marks m, and from those of every row
+abbrev pub FromRow : Table → List ℕ → ℕ → List ℕ → ℕ → List ℕ → ℕ → ℕ → Type 0
+FromRow A letters states successors j m s i = Below (Along A letters (getD successors s 0) (OnLevel m (A .weight) j s)) states i
+
+abbrev pub FromAll : Table → List ℕ → ℕ → List ℕ → ℕ → List ℕ → ℕ → Type 0
+FromAll A letters states successors j m i = Below (FromRow A letters states successors j m) states i
+
+-- after k states a run can be in state s with the table in state q
+pub data Way (M : Model) (A : Table) : ℕ → ℕ → ℕ → Type 0 where
+  start : {s q : ℕ} → s < M .states → T (M .initial s) → T (A .edge 0 (M .letter s) q) → Way M A 1 s q
+  onto : {k s q t m : ℕ} → Way M A k s q → t < M .states → T (M .next s t) → T (A .edge q (M .letter t) m) → Way M A (suc k) t m
+
+-- the marks of the pairs that ways of at most j states reach: the length of the shortest
+pub record Level (M : Model) (A : Table) (j : ℕ) (m : ℕ → ℕ → ℕ) : Type 0 where
+  pub low : (s q : ℕ) → s < 64 → q < 64 → m s q ≤ j
+  pub sound : (s q : ℕ) → s < 64 → q < 64 → m s q ≢ 0 → Way M A (m s q) s q
+  pub complete : {i s q : ℕ} → Way M A i s q → i ≤ j → (m s q ≢ 0) × (m s q ≤ i)
+
+-- the final states of a table of n states
+abbrev pub finalOf : ℕ → ℕ → ℕ → Bool
+finalOf n finals q = ltb q n && bit finals q
+
+-- a table state of row s that is on level j and final
+pub record FinalIn (final : ℕ → Bool) (m : List ℕ) (j s : ℕ) : Type 0 where
+  pub state : ℕ
+  pub on : view m s state ≡ j
+  pub is-final : T (final state)
+
+-- and in a row below n
+pub record FinalOn (final : ℕ → Bool) (m : List ℕ) (j n : ℕ) : Type 0 where
+  pub row : ℕ
+  pub below : row < n
+  pub there : FinalIn final m j row
+
+-- how the forward pass ends, at level k with c pairs marked: finals are on level k alone
+pub record Marked (M : Model) (A : Table) (k c : ℕ) (m : List ℕ) : Type 0 where
+  pub some : 1 ≤ k
+  pub levels : Level M A k (view m)
+  pub counted : Count (Nz m) 4096 c
+  pub few : c ≤ 4032
+  pub last-only : (s q : ℕ) → s < 64 → q < 64 → view m s q ≢ 0 → T (A .final q) → view m s q ≡ k
+
+-- level k holds a final, and each level below it holds a pair; or nothing is on level k
+pub record Ended (M : Model) (A : Table) (found : Bool) (k c : ℕ) (m : List ℕ) : Type 0 where
+  pub marked : Marked M A k c m
+  pub some-final : found ≡ true → FinalOn (A .final) m k (M .states) × (k ≤ c)
+  pub empty : found ≡ false → (s q : ℕ) → s < 64 → q < 64 → view m s q ≢ k
+
+-- ---- the backward pass
+
+-- from table state q, d more states (the first allowed by ok) can end in a final
+abbrev pub Left : Model → Table → (ℕ → Bool) → ℕ → ℕ → Type 0
+Left M A ok zero q = T (A .final q)
+Left M A ok (suc d) q = (t : ℕ) × (p : ℕ) × (t < M .states) × T (ok t) × T (A .edge q (M .letter t) p) × Left M A (M .next t) d p
+
+-- of the pairs on level j or later those that lie on a way of k states to a final are marked in u
+unfoldable pub Useful : Model → Table → ℕ → (ℕ → ℕ → ℕ) → ℕ → (ℕ → ℕ → ℕ) → Type 0
+Useful M A k m j u = (s q : ℕ) → s < 64 → q < 64 → j ≤ m s q → (d : ℕ) → k ≡ m s q + d → (u s q ≢ 0) ↔ Left M A (M .next s) d q
+
+-- table state q of Q is led by state t, if that is in the set `succ`, to a useful pair on level j
+abbrev pub Led : Table → List ℕ → ℕ → (ℕ → Type 0) → List ℕ → List ℕ → ℕ → ℕ → ℕ → Type 0
+Led A letters succ Q m u j t q = T (bit succ t) × Leads A Q (Under (Kept m u j t) (A .weight)) (getD letters t 0) q
+
+-- the places of row s on level j whose table state is final
+abbrev pub SeedRow : ℕ → ℕ → List ℕ → ℕ → ℕ → ℕ → Type 0
+SeedRow n finals m j s i = Below (At (λ q. OnLevel m n j s q × T (bit finals q)) s) n i
+
+-- the places of row s on level j that lead to a useful pair on level j + 1
+abbrev pub SettleRow : Table → List ℕ → ℕ → List ℕ → List ℕ → List ℕ → ℕ → ℕ → ℕ → Type 0
+SettleRow A letters states successors m u j s i = Below (At (Below (Led A letters (getD successors s 0) (OnLevel m (A .weight) j s) m u (j + 1)) states) s) (A .weight) i
+
+-- ---- the pick
+
+-- state t leads from Q to table state p, and that pair is useful and on level j
+abbrev pub Onward : Table → List ℕ → (ℕ → Type 0) → List ℕ → List ℕ → ℕ → ℕ → ℕ → Type 0
+Onward A letters Q m u j t p = Into A Q (getD letters t 0) p × Under (Kept m u j t) (A .weight) p
+
+-- and t is in the set `succ`, for some p
+abbrev pub CanNext : Table → List ℕ → ℕ → (ℕ → Type 0) → List ℕ → List ℕ → ℕ → ℕ → Type 0
+CanNext A letters succ Q m u j t = T (bit succ t) × ((p : ℕ) × Onward A letters Q m u j t p)
+
+-- what the two passes leave to the pick: a match of k states is there
+pub record Ready (M : Model) (A : Table) (k : ℕ) (m u : List ℕ) : Type 0 where
+  pub count : ℕ
+  pub marked : Marked M A k count m
+  pub useful : Useful M A k (view m) 1 (view u)
+  pub some : Left M A (M .initial) k 0
+
+-- a row of k states that the table accepts, the first in state order of those that are as long
+pub record Picked (M : Model) (A : Table) (k : ℕ) (r : List ℕ) : Type 0 where
+  pub size : length r ≡ k
+  pub walk : Walk M (M .initial) r
+  pub accepted : Accepts A (spelled M r)
+  pub first : (u : List ℕ) → Walk M (M .initial) u → Accepts A (spelled M u) → length u ≡ k → (r ≡ u) ⊎ Before r u

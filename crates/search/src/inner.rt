@@ -1,0 +1,67 @@
+// The search over any table that serves a rule: a shortest match of the model, the first in state order, and the pair count.
+ghost use mathlib.Core.Path.{_≡_};
+ghost use Prim.Native.Nat.{ℕ, _<_, _≤_};
+ghost use lib.ListN.{length, getD};
+ghost use Rattle.tables.specs.Table.{tableOf};
+ghost use Rattle.models.specs.Stored.{modelWith};
+ghost use Rattle.search.specs.Lent.{Beyond, LentTable, LentLetters};
+ghost use Rattle.search.specs.Told.{Answers, SearchedTable};
+use crate::backward::backward;
+use crate::choose::pick;
+use crate::forward::forward;
+use crate::marks::clear;
+use crate::shape::Sizes;
+
+// What a search answers.
+pub enum Searched {
+    // the output begins with a match of so many states; so many pairs are within its length
+    Found { long: usize, pairs: usize },
+    // no run matches; so many pairs are there at all
+    Nothing { pairs: usize },
+}
+
+// The passes, on working slices that are all 0.
+fn passes(
+    table: &[u64],
+    letters: &[u8],
+    successors: &[u64],
+    marks: &mut [u16],
+    useful: &mut [u16],
+    run: &mut [u8],
+    sizes: Sizes,
+) -> Searched
+    requires { ⌜ LentTable (now table) (sizes .weight) × LentLetters (now letters) (sizes .states) × (sizes .states ≤ length (now successors)) × (4096 ≤ length (now marks)) × (4096 ≤ length (now useful)) × (4096 ≤ length (now run)) × ((i : ℕ) → i < 4096 → getD (now marks) i 0 ≡ 0) × ((i : ℕ) → i < 4096 → getD (now useful) i 0 ≡ 0) ⌝ }
+    ensures { λ r. ⌜ Answers (modelWith (sizes .states) (now (letters .entry)) (sizes .initial) (now (successors .entry))) (tableOf (now (table .entry)) (sizes .weight) (sizes .finals)) r (now (run .entry)) (now (run .exit)) × Beyond 4096 (now (marks .entry)) (now (marks .exit)) × Beyond 4096 (now (useful .entry)) (now (useful .exit)) ⌝ }
+{
+    let outcome = forward(table, letters, successors, marks, sizes);
+    let pairs = outcome.count;
+    if outcome.found {
+        let level = outcome.level;
+        backward(table, letters, successors, marks, useful, sizes, level);
+        pick(table, letters, successors, marks, useful, run, sizes, level);
+        let long = level as usize;
+        return Searched::Found { long, pairs };
+    }
+    Searched::Nothing { pairs }
+}
+
+// The search. `marks` and `useful` are working slices: whatever they hold, their first 4,096 entries are 0 at the end.
+pub fn search_table(
+    table: &[u64],
+    letters: &[u8],
+    successors: &[u64],
+    marks: &mut [u16],
+    useful: &mut [u16],
+    run: &mut [u8],
+    sizes: Sizes,
+) -> Searched
+    requires { ⌜ LentTable (now table) (sizes .weight) × LentLetters (now letters) (sizes .states) × (sizes .states ≤ length (now successors)) × (4096 ≤ length (now marks)) × (4096 ≤ length (now useful)) × (4096 ≤ length (now run)) ⌝ }
+    ensures { λ r. ⌜ SearchedTable (modelWith (sizes .states) (now (letters .entry)) (sizes .initial) (now (successors .entry))) (tableOf (now (table .entry)) (sizes .weight) (sizes .finals)) r (now (marks .entry)) (now (marks .exit)) (now (useful .entry)) (now (useful .exit)) (now (run .entry)) (now (run .exit)) ⌝ }
+{
+    clear(marks);
+    clear(useful);
+    let answer = passes(table, letters, successors, marks, useful, run, sizes);
+    clear(marks);
+    clear(useful);
+    answer
+}
