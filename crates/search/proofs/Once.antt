@@ -1,20 +1,19 @@
 -- No second answer and no second content of the lent slices fit the promise of `search`. Assumes nothing.
-use Prim.Native.Nat.{ℕ, _<_, _≤_}
+use Prim.Native.Nat.{ℕ}
 use native.Mathlib.Omega.{arith}
 use mathlib.Core.Path.{_≡_, refl, sym, ap, ap₂, subst, _∙_}
 use mathlib.Core.List.{List}
-use lib.Dec.{eqb}
+use lib.Dec.{eqb, ltb}
 use lib.ListN.{length}
 use Rattle.rules.specs.declared.Refusal as rule-refusal
-use Rattle.rules.specs.declared.Refusal.the-variants as rule-refusal-of
 use Rattle.rules.specs.Definition1.{Rule}
 use Rattle.rules.specs.Kinds.{pick}
 use Rattle.rules.specs.Weight.{weightOf}
 use Rattle.rules.specs.Refusals as rule-refusals
 use Rattle.rules.specs.Answer as rules
 use Rattle.rules.specs.Answer.{AcceptedAs, knownOf}
-use Rattle.rules.proofs.Accepting.{accepted-answer, accepted-once}
-use Rattle.tables.specs.declared.TableAnswer.{TableAnswer}
+use Rattle.rules.proofs.Accepting.{not-refused, accepted-once}
+use Rattle.rules.proofs.Once.{named, named-told, of-a-rule}
 use Rattle.tables.specs.declared.TableAnswer.the-variants.{Tabled}
 use Rattle.tables.specs.Table.{tableOf}
 use Rattle.tables.specs.IsTable.{Words}
@@ -34,12 +33,6 @@ use Rattle.search.proofs.Unique.{one-answer, cleared-same, runs-same}
 -- ---- one result
 
 module _ (s g : List ℕ) where
-  rule-both : (n p : ℕ) (f : Rule) → rules.answer s ≡ rules.refused n p → AcceptedAs s f → ⊥
-  rule-both n p f q a =
-      let e : rules.answer s ≡ rules.accepted (knownOf f) = accepted-answer s f a in
-      let z : _≡_ {A = ℕ} 0 1 = cc in
-      omega arith
-
   model-both : (n p : ℕ) → models.answer g .verdict ≡ models.refused n p → models.answer g .verdict ≡ models.accepted → ⊥
   model-both n p q a = let z : _≡_ {A = ℕ} 0 1 = cc in omega arith
 
@@ -48,27 +41,27 @@ output-same (found r c) run run₁ run₂ x y = runs-same (length r) run run₁ 
 output-same (nothing c) run run₁ run₂ x y = x ∙ sym y
 
 -- two searches over one rule and one model
-module _ (s : List ℕ) (M : Model) (b a d : Slices) (long : LongEnough b) (ha : Words (a .table)) (hd : Words (d .table)) (r r′ : Answer) (x : Searches s M b a r) (y : Searches s M b d r′) where
-  rule-same : x .meant ≡ y .meant
-  rule-same = accepted-once s (x .meant) (y .meant) (x .accepted) (y .accepted)
+module _ (s : List ℕ) (M : Model) (b a d : Slices) (long : LongEnough b) (ha : Words (a .table)) (hd : Words (d .table)) (f f′ : Rule) (r r′ : Answer) (x : Searches s f M b a r) (y : Searches s f′ M b d r′) where
+  rule-same : f ≡ f′
+  rule-same = accepted-once s f f′ (x .accepted) (y .accepted)
 
-  tables-same : (Tabled (knownOf (x .meant)) (x .finals) ≡ Tabled (knownOf (y .meant)) (y .finals)) × (a .table ≡ d .table)
+  tables-same : (Tabled (knownOf f) (x .finals) ≡ Tabled (knownOf f′) (y .finals)) × (a .table ≡ d .table)
   tables-same =
-      tables-once.one-answer s (b .table) (a .table) (d .table) (Tabled (knownOf (x .meant)) (x .finals)) (Tabled (knownOf (y .meant)) (y .finals)) ha hd
+      tables-once.one-answer s (b .table) (a .table) (d .table) (Tabled (knownOf f) (x .finals)) (Tabled (knownOf f′) (y .finals)) ha hd
       (tables.the-table (x .accepted) (long .table-long) (x .finals-small) (x .table) (x .table-past))
       (tables.the-table (y .accepted) (long .table-long) (y .finals-small) (y .table) (y .table-past))
 
   finals-same : x .finals ≡ y .finals
   finals-same = let e = tables-same .0 in cc
 
-  right-same : Right M (tableOf (a .table) (weightOf (x .meant)) (x .finals)) (x .meant) r′
+  right-same : Right M (tableOf (a .table) (weightOf f) (x .finals)) f r′
   right-same =
-      subst (λ (f : Rule). Right M (tableOf (a .table) (weightOf f) (x .finals)) f r′) (sym rule-same)
-      (subst (λ (n : ℕ). Right M (tableOf (a .table) (weightOf (y .meant)) n) (y .meant) r′) (sym finals-same)
-      (subst (λ (t : List ℕ). Right M (tableOf t (weightOf (y .meant)) (y .finals)) (y .meant) r′) (sym (tables-same .1)) (y .right)))
+      subst (λ (h : Rule). Right M (tableOf (a .table) (weightOf h) (x .finals)) h r′) (sym rule-same)
+      (subst (λ (n : ℕ). Right M (tableOf (a .table) (weightOf f′) n) f′ r′) (sym finals-same)
+      (subst (λ (t : List ℕ). Right M (tableOf t (weightOf f′) (y .finals)) f′ r′) (sym (tables-same .1)) (y .right)))
 
   answer-same : r ≡ r′
-  answer-same = one-answer M (tableOf (a .table) (weightOf (x .meant)) (x .finals)) (x .meant) r r′ (x .right) right-same
+  answer-same = one-answer M (tableOf (a .table) (weightOf f) (x .finals)) f r r′ (x .right) right-same
 
   slices-same : a ≡ d
   slices-same =
@@ -81,23 +74,25 @@ module _ (s : List ℕ) (M : Model) (b a d : Slices) (long : LongEnough b) (ha :
 module _ (s g : List ℕ) (b a d : Slices) (ha : Words (a .table)) (hd : Words (d .table)) where
   one-result : {x y : Result} → SearchRight s g b a x → SearchRight s g b d y → (x ≡ y) × (a ≡ d)
   one-result (rule-refused q e) (rule-refused q′ e′) = (cc, e ∙ sym e′)
-  one-result (rule-refused q e) (model-refused f v e′) = absurd (rule-both s g _ _ _ q f)
-  one-result (rule-refused q e) (short-slice f v l e′) = absurd (rule-both s g _ _ _ q f)
-  one-result (rule-refused q e) (searched k v l z) = absurd (rule-both s g _ _ _ q (z .accepted))
-  one-result (model-refused f v e) (rule-refused q e′) = absurd (rule-both s g _ _ _ q f)
+  one-result (rule-refused q e) (model-refused f v e′) = absurd (not-refused s _ _ _ q f)
+  one-result (rule-refused q e) (short-slice f v l e′) = absurd (not-refused s _ _ _ q f)
+  one-result (rule-refused q e) (searched k v l z) = absurd (not-refused s _ _ _ q (z .accepted))
+  one-result (model-refused f v e) (rule-refused q e′) = absurd (not-refused s _ _ _ q f)
   one-result (model-refused f v e) (model-refused f′ v′ e′) = (cc, e ∙ sym e′)
   one-result (model-refused f v e) (short-slice f′ v′ l e′) = absurd (model-both s g _ _ v v′)
   one-result (model-refused f v e) (searched k v′ l z) = absurd (model-both s g _ _ v v′)
-  one-result (short-slice f v l e) (rule-refused q e′) = absurd (rule-both s g _ _ _ q f)
+  one-result (short-slice f v l e) (rule-refused q e′) = absurd (not-refused s _ _ _ q f)
   one-result (short-slice f v l e) (model-refused f′ v′ e′) = absurd (model-both s g _ _ v′ v)
   one-result (short-slice f v l e) (short-slice f′ v′ l′ e′) = (refl, e ∙ sym e′)
   one-result (short-slice f v l e) (searched k v′ l′ z) = absurd (l l′)
-  one-result (searched k v l z) (rule-refused q e) = absurd (rule-both s g _ _ _ q (z .accepted))
+  one-result (searched k v l z) (rule-refused q e) = absurd (not-refused s _ _ _ q (z .accepted))
   one-result (searched k v l z) (model-refused f v′ e) = absurd (model-both s g _ _ v′ v)
   one-result (searched k v l z) (short-slice f v′ l′ e) = absurd (l′ l)
-  one-result (searched {r = r} k v l z) (searched {r = r′} k′ v′ l′ z′) =
-      let e : r ≡ r′ = answer-same s _ b a d l ha hd r r′ z z′ in
-      (ap₂ answered (k ∙ ap lengthOf e ∙ sym k′) e, slices-same s _ b a d l ha hd r r′ z z′)
+  one-result (searched {f = f} {r = r} k v l z) (searched {f = f′} {r = r′} k′ v′ l′ z′) =
+      let e : r ≡ r′ = answer-same s _ b a d l ha hd f f′ r r′ z z′ in
+      let m : knownOf f ≡ knownOf f′ = ap knownOf (rule-same s _ b a d l ha hd f f′ r r′ z z′) in
+      let n = k ∙ ap lengthOf e ∙ sym k′ in
+      (cc, slices-same s _ b a d l ha hd f f′ r r′ z z′)
 
 -- ---- `told` loses nothing
 
@@ -111,28 +106,15 @@ modelRefusal n p =
     (pick (eqb n 16) (ModelRefused (model-refusal-of.NoSuchState p)) ShortSlice)))))
 
 abbrev refusalOf : ℕ → ℕ → SearchAnswer
-refusalOf n p =
-    pick (eqb n 1) (RuleRefused rule-refusal-of.TooLong)
-    (pick (eqb n 2) (RuleRefused (rule-refusal-of.Ended p))
-    (pick (eqb n 3) (RuleRefused (rule-refusal-of.UnknownKind p))
-    (pick (eqb n 4) (RuleRefused (rule-refusal-of.WrongSort p))
-    (pick (eqb n 5) (RuleRefused (rule-refusal-of.NoProposition p))
-    (pick (eqb n 6) (RuleRefused (rule-refusal-of.Leftover p))
-    (pick (eqb n 7) (RuleRefused rule-refusal-of.TooHeavy) (modelRefusal n p)))))))
+refusalOf n p = pick (ltb n 8) (RuleRefused (named n p)) (modelRefusal n p)
 
 abbrev meant : Result → SearchAnswer
-meant (answered n (found r c)) = Answered (Found n c)
-meant (answered n (nothing c)) = Answered (Nothing c)
+meant (answered k n (found r c)) = Answered (Found n c) k
+meant (answered k n (nothing c)) = Answered (Nothing c) k
 meant (refused n p) = refusalOf n p
 
 meant-rule : (x : rule-refusal.Refusal) → refusalOf (rule-refusals.number x) (rule-refusals.place x) ≡ RuleRefused x
-meant-rule rule-refusal-of.TooLong = refl
-meant-rule (rule-refusal-of.Ended p) = refl
-meant-rule (rule-refusal-of.UnknownKind p) = refl
-meant-rule (rule-refusal-of.WrongSort p) = refl
-meant-rule (rule-refusal-of.NoProposition p) = refl
-meant-rule (rule-refusal-of.Leftover p) = refl
-meant-rule rule-refusal-of.TooHeavy = refl
+meant-rule x = rw (of-a-rule x) (ap RuleRefused (named-told x))
 
 meant-model : (x : model-refusal.Refusal) → refusalOf (models.number x) (models.place x) ≡ ModelRefused x
 meant-model model-refusal-of.TooMany = refl
@@ -143,8 +125,8 @@ meant-model (model-refusal-of.WrongFlag p) = refl
 meant-model (model-refusal-of.NoSuchState p) = refl
 
 meant-told : (x : SearchAnswer) (run : List ℕ) → meant (told x run) ≡ x
-meant-told (Answered (Found l c)) run = refl
-meant-told (Answered (Nothing c)) run = refl
+meant-told (Answered (Found l c) k) run = refl
+meant-told (Answered (Nothing c) k) run = refl
 meant-told (RuleRefused x) run = meant-rule x
 meant-told (ModelRefused x) run = meant-model x
 meant-told ShortSlice run = refl

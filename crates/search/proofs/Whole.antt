@@ -1,9 +1,9 @@
 -- From what the readers, the builder and the search over a table promise to what the public call promises. Assumes nothing.
-use Prim.Native.Nat.{ℕ, _^_, _<_, _≤_}
+use Prim.Native.Nat.{ℕ, _≤_}
 use native.Mathlib.Omega.{arith}
 use mathlib.Core.Path.{_≡_, refl, sym, ap, subst, _∙_}
 use mathlib.Core.List.{List}
-use lib.ListN.{length, getD, take}
+use lib.ListN.{length, take}
 use lib.Seq.{length-take-le}
 use Rattle.rules.specs.declared.Known.{Known}
 use Rattle.rules.specs.declared.Refusal as rule-refusal
@@ -12,11 +12,10 @@ use Rattle.rules.specs.declared.RuleAnswer.the-variants as rule-answer
 use Rattle.rules.specs.Definition1.{Rule}
 use Rattle.rules.specs.Refusals as rule-refusals
 use Rattle.rules.specs.Answer as rules
-use Rattle.rules.specs.Answer.{AcceptedAs, knownOf}
-use Rattle.rules.proofs.Accepting.{accepted-rule, accepted-answer}
-use Rattle.tables.specs.declared.TableAnswer.{TableAnswer}
+use Rattle.rules.specs.Answer.{AcceptedAs}
+use Rattle.rules.proofs.Accepting as rules-accepting
+use Rattle.rules.proofs.Accepting.{accepted-rule}
 use Rattle.tables.specs.Table.{tableOf}
-use Rattle.tables.specs.Promise.{Serves}
 use Rattle.tables.specs.IsTable.{Words}
 use Rattle.tables.specs.Answer as tables
 use Rattle.tables.proofs.Serving.{serves}
@@ -30,10 +29,10 @@ use Rattle.models.specs.Answer as models
 use Rattle.search.specs.declared.inner.Searched.{Searched}
 use Rattle.search.specs.declared.inner.Searched.the-variants.{Found, Nothing}
 use Rattle.search.specs.declared.SearchAnswer.{SearchAnswer}
-use Rattle.search.specs.declared.SearchAnswer.the-variants.{Answered, RuleRefused, ModelRefused, ShortSlice}
+use Rattle.search.specs.declared.SearchAnswer.the-variants.{Answered}
 use Rattle.search.specs.Lent.{LentTable, LentLetters, Beyond}
 use Rattle.search.specs.Told.{answerOf, RunKept, SearchedTable}
-use Rattle.search.specs.Answer.{Slices, slices, LongEnough, lengthOf, givenLength, refused, told, Output, Searches, SearchRight, rule-refused, model-refused, short-slice, searched}
+use Rattle.search.specs.Answer.{Slices, slices, LongEnough, lengthOf, givenLength, refused, told, Output, Searches, SearchRight, rule-refused, model-refused, short-slice, searched, BuiltAndSearched}
 
 -- ---- the builder
 
@@ -42,10 +41,7 @@ pub not-refused : {s t t′ : List ℕ} {f : Rule} {x : tables.Result} {n p : �
 not-refused {s} {t} {t′} {f} {n = n} {p = p} a l x e = go (subst (tables.Right s t t′) e x)
   where
     go : {n p : ℕ} → tables.Right s t t′ (tables.refused n p) → ⊥
-    go {n} {p} (tables.rule-refused q h) =
-        let y : rules.answer s ≡ rules.accepted (knownOf f) = accepted-answer s f a in
-        let z : _≡_ {A = ℕ} 0 1 = cc in
-        omega arith
+    go (tables.rule-refused q h) = rules-accepting.not-refused s _ _ f q a
     go (tables.short-table b h k) = omega arith
 
 -- the table that was built is one that the search takes
@@ -61,25 +57,30 @@ output-of (Found long pairs) run run′ x =
 output-of (Nothing pairs) run run′ x = x
 
 -- the length that is given is the run's
-pub length-given : (x : Searched) (run run′ : List ℕ) → RunKept x run run′ → givenLength x ≡ lengthOf (answerOf x run′)
+length-given : (x : Searched) (run run′ : List ℕ) → RunKept x run run′ → givenLength x ≡ lengthOf (answerOf x run′)
 length-given (Found long pairs) run run′ x = sym (length-take-le long run′ (x .0))
 length-given (Nothing pairs) run run′ x = refl
 
 -- and what the search over it promises is what the call promises
-pub searches-of : {s t t′ : List ℕ} {k : Known} {f : ℕ} (M : Model) (x : Searched) (m m′ u u′ run run′ : List ℕ) → Words t′ → tables.Right s t t′ (tables.tabled k f)
-    → SearchedTable M (tableOf t′ (k .weight) f) x m m′ u u′ run run′ → Searches s M (slices t m u run) (slices t′ m′ u′ run′) (answerOf x run′)
-searches-of {t′ = t′} {f = f} M x m m′ u u′ run run′ words (tables.the-table {r} a l lf i p) y = record {
+pub built-and-searched : {s t t′ : List ℕ} {k : Known} {f : ℕ} (M : Model) (x : Searched) (m m′ u u′ run run′ : List ℕ) → Words t′ → tables.Right s t t′ (tables.tabled k f)
+    → SearchedTable M (tableOf t′ (k .weight) f) x m m′ u u′ run run′ → BuiltAndSearched s M (slices t m u run) (slices t′ m′ u′ run′) (Answered x k)
+built-and-searched {t′ = t′} {f = f} M x m m′ u u′ run run′ words (tables.the-table {r} a l lf i p) y = record {
   meant = r;
-  finals = f;
-  accepted = a;
-  finals-small = lf;
-  table = i;
-  table-past = p;
-  right = y .answers .right r (serves r t′ f i (a .light) words);
-  bounded = y .answers .bounded;
-  marks-clear = y .marks-clear;
-  useful-clear = y .useful-clear;
-  output = output-of x run run′ (y .answers .run-kept);
+  result = x;
+  answer-is = refl;
+  length-is = length-given x run run′ (y .answers .run-kept);
+  searches = record {
+    finals = f;
+    accepted = a;
+    finals-small = lf;
+    table = i;
+    table-past = p;
+    right = y .answers .right r (serves r t′ f i (a .light) words);
+    bounded = y .answers .bounded;
+    marks-clear = y .marks-clear;
+    useful-clear = y .useful-clear;
+    output = output-of x run run′ (y .answers .run-kept);
+  };
 }
 
 -- ---- the model
@@ -110,7 +111,8 @@ module _ (s g : List ℕ) {f : Rule} (accepted : AcceptedAs s f) (r : ModelRead)
     pub slice-no : {l : Slices} → (LongEnough l → ⊥) → SearchRight s g l l (refused 21 0)
     slice-no n = short-slice accepted (verdict (ap models.verdictOf h)) n refl
 
-    pub search-yes : {l l′ : Slices} {y : SearchAnswer} → LongEnough l → (x : Searched) → y ≡ Answered x → Searches s (modelOf (r .model)) l l′ (answerOf x (l′ .run)) → givenLength x ≡ lengthOf (answerOf x (l′ .run)) → SearchRight s g l l′ (told y (l′ .run))
-    search-yes {l} {l′} n x q z k =
-        subst (λ (y : SearchAnswer). SearchRight s g l l′ (told y (l′ .run))) (sym q)
-        (searched k (verdict (ap models.verdictOf h)) n (subst (λ (m : models.Result). Searches s (modelOf (m .model)) l l′ (answerOf x (l′ .run))) e z))
+    pub search-yes : {l l′ : Slices} {y : SearchAnswer} → LongEnough l → BuiltAndSearched s (modelOf (r .model)) l l′ y → SearchRight s g l l′ (told y (l′ .run))
+    search-yes {l} {l′} n b =
+        subst (λ (y : SearchAnswer). SearchRight s g l l′ (told y (l′ .run))) (sym (b .answer-is))
+        (searched (b .length-is) (verdict (ap models.verdictOf h)) n
+        (subst (λ (m : models.Result). Searches s (b .meant) (modelOf (m .model)) l l′ (answerOf (b .result) (l′ .run))) e (b .searches)))

@@ -7,7 +7,8 @@ use Rattle.rules.specs.Definition1.{Rule}
 use Rattle.rules.specs.Weight.{weightOf}
 use Rattle.rules.specs.Refusals as rule-refusals
 use Rattle.rules.specs.Answer as rules
-use Rattle.rules.specs.Answer.{AcceptedAs}
+use Rattle.rules.specs.Answer.{AcceptedAs, knownOf}
+use Rattle.rules.specs.declared.Known.{Known}
 use Rattle.tables.specs.Table.{tableOf}
 use Rattle.tables.specs.IsTable.{IsTable}
 use Rattle.tables.specs.Answer.{SamePast}
@@ -39,9 +40,9 @@ pub record LongEnough (l : Slices) : Type 0 where
   pub useful-long : 4096 ≤ length (l .useful)
   pub run-long : 4096 ≤ length (l .run)
 
--- a run's length (0 where there is none) and the answer; or refused with number and place
+-- what is known of the rule, a run's length (0 where there is none) and the answer; or refused with number and place
 pub data Result : Type 0 where
-  answered : ℕ → Answer → Result
+  answered : Known → ℕ → Answer → Result
   refused : ℕ → ℕ → Result
 
 abbrev pub lengthOf : Answer → ℕ
@@ -54,7 +55,7 @@ givenLength (Nothing pairs) = 0
 
 -- the paper's number and values for each case; the run is what the output begins with
 abbrev pub told : SearchAnswer → List ℕ → Result
-told (Answered x) run = answered (givenLength x) (answerOf x run)
+told (Answered x k) run = answered k (givenLength x) (answerOf x run)
 told (RuleRefused x) run = refused (rule-refusals.number x) (rule-refusals.place x)
 told (ModelRefused x) run = refused (models.number x) (models.place x)
 told ShortSlice run = refused 21 0
@@ -64,9 +65,8 @@ abbrev pub Output : Answer → List ℕ → List ℕ → Type 0
 Output (found r c) run run′ = (take (length r) run′ ≡ r) × Beyond (length r) run run′
 Output (nothing c) run run′ = run′ ≡ run
 
--- the table slice begins with the rule's table, over which the answer is right; the working slices are clear
-pub record Searches (rule : List ℕ) (M : Model) (before after : Slices) (r : Answer) : Type 0 where
-  pub meant : Rule
+-- the bytes are the rule `meant`, the table slice begins with its table, over which the answer is right; the working slices are clear
+pub record Searches (rule : List ℕ) (meant : Rule) (M : Model) (before after : Slices) (r : Answer) : Type 0 where
   pub finals : ℕ
   pub accepted : AcceptedAs rule meant
   pub finals-small : finals < 2 ^ 64
@@ -85,5 +85,13 @@ pub data SearchRight (rule model : List ℕ) (before after : Slices) : Result �
       → SearchRight rule model before after (refused n p)
   short-slice : {f : Rule} → AcceptedAs rule f → models.answer model .verdict ≡ models.accepted → (LongEnough before → ⊥) → after ≡ before
       → SearchRight rule model before after (refused 21 0)
-  searched : {n : ℕ} {r : Answer} → n ≡ lengthOf r → models.answer model .verdict ≡ models.accepted → LongEnough before
-      → Searches rule (modelOf (models.answer model .model)) before after r → SearchRight rule model before after (answered n r)
+  searched : {f : Rule} {n : ℕ} {r : Answer} → n ≡ lengthOf r → models.answer model .verdict ≡ models.accepted → LongEnough before
+      → Searches rule f (modelOf (models.answer model .model)) before after r → SearchRight rule model before after (answered (knownOf f) n r)
+
+-- what building and searching come to, where the rule is accepted and the slices are long enough
+pub record BuiltAndSearched (rule : List ℕ) (M : Model) (before after : Slices) (answer : SearchAnswer) : Type 0 where
+  pub meant : Rule
+  pub result : Searched
+  pub answer-is : answer ≡ Answered result (knownOf meant)
+  pub length-is : givenLength result ≡ lengthOf (answerOf result (after .run))
+  pub searches : Searches rule meant M before after (answerOf result (after .run))

@@ -1,19 +1,16 @@
 // Searches a model for a shortest run that a rule matches, and counts the pairs that it saw.
-ghost use mathlib.Core.Path.{_≡_};
-ghost use Prim.Native.Nat.{ℕ, _≤_};
-ghost use lib.ListN.{length};
 ghost use Rattle.bits.specs.Says.{Says};
 ghost use Rattle.rules.specs.Definition1.{Rule};
 ghost use Rattle.rules.specs.Answer.{AcceptedAs};
 ghost use Rattle.models.specs.Stored.{modelOf, Held};
-ghost use Rattle.search.specs.Told.{answerOf};
-ghost use Rattle.search.specs.Answer.{givenLength, lengthOf, slices, LongEnough, told, Searches, SearchRight};
+ghost use Rattle.search.specs.Answer.{slices, LongEnough, told, SearchRight, BuiltAndSearched};
 use crate::inner::Searched;
 use crate::inner::search_table;
 use crate::shape::PAIRS;
 use crate::shape::Sizes;
 use models::ModelAnswer;
 use models::ModelData;
+use rules::Known;
 use rules::RuleAnswer;
 use tables::TableAnswer;
 
@@ -27,8 +24,8 @@ pub mod inner; // the search over a table
 
 // What a search comes to.
 pub enum SearchAnswer {
-    // Rule and model are accepted: what the search found.
-    Answered(Searched),
+    // Rule and model are accepted: what the search came to, and what is known of the rule.
+    Answered { searched: Searched, rule: Known },
     // The rule is refused, as its reader says.
     RuleRefused(rules::Refusal),
     // The model is refused, as its reader says.
@@ -63,7 +60,7 @@ fn search_built(
     run: &mut [u8],
 ) -> SearchAnswer
     requires { ⌜ ((f : Rule) × AcceptedAs (now rule) f) × Held model × LongEnough (slices (now table) (now marks) (now useful) (now run)) ⌝ }
-    ensures { λ r. ⌜ ((x : Searched) × (r ≡ SearchAnswer.Answered x) × Searches (now (rule .entry)) (modelOf model) (slices (now (table .entry)) (now (marks .entry)) (now (useful .entry)) (now (run .entry))) (slices (now (table .exit)) (now (marks .exit)) (now (useful .exit)) (now (run .exit))) (answerOf x (now (run .exit))) × (givenLength x ≡ lengthOf (answerOf x (now (run .exit))))) ⌝ }
+    ensures { λ r. ⌜ BuiltAndSearched (now (rule .entry)) (modelOf model) (slices (now (table .entry)) (now (marks .entry)) (now (useful .entry)) (now (run .entry))) (slices (now (table .exit)) (now (marks .exit)) (now (useful .exit)) (now (run .exit))) r ⌝ }
 {
     match tables::build(rule, table) {
         TableAnswer::RuleRefused(x) => SearchAnswer::RuleRefused(x),
@@ -80,15 +77,11 @@ fn search_built(
                 weight: known.weight,
                 finals,
             };
-            SearchAnswer::Answered(search_table(
-                table,
-                &letters,
-                &successors,
-                marks,
-                useful,
-                run,
-                sizes,
-            ))
+            let searched = search_table(table, &letters, &successors, marks, useful, run, sizes);
+            SearchAnswer::Answered {
+                searched,
+                rule: known,
+            }
         }
     }
 }

@@ -1,11 +1,13 @@
 // Large models, put together state by state.
 use crate::bytes::put_byte;
 
-// Eight bytes, the lowest first.
+const WORD_BYTES: usize = 8;
+
+// A word's bytes, the lowest first.
 fn put_word(out: &mut [u8], at: usize, word: u64) -> usize {
     let mut end = at;
     let mut rest = word;
-    for _ in 0..8 {
+    for _ in 0..WORD_BYTES {
         end = put_byte(out, end, (rest % 256) as u8);
         rest = rest / 256;
     }
@@ -23,7 +25,7 @@ fn put_state(out: &mut [u8], at: usize, letter: u8, flag: u8, successors: u64) -
 fn put_link(out: &mut [u8], at: usize, k: u64) -> usize {
     let letter = if k == 33 { 1 } else { 0 };
     let flag = if k == 0 { 1 } else { 0 };
-    put_state(out, at, letter, flag, 1u64 << ((k + 1) % 64))
+    put_state(out, at, letter, flag, 1u64 << ((k % 64 + 1) % 64))
 }
 
 pub fn put_ring(out: &mut [u8]) -> usize {

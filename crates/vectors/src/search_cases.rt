@@ -33,7 +33,7 @@ fn show_run(run: &[u8], n: usize) {
     for i in 0..n {
         if i < run.len() {
             show::text(b" ");
-            show::number(run[i] as u64);
+            show::byte(run[i]);
         }
     }
 }
@@ -63,7 +63,10 @@ fn searched(answer: Searched, run: &[u8]) {
 
 fn answered(answer: SearchAnswer, run: &[u8]) {
     match answer {
-        SearchAnswer::Answered(x) => searched(x, run),
+        SearchAnswer::Answered {
+            searched: x,
+            rule: _,
+        } => searched(x, run),
         SearchAnswer::RuleRefused(x) => show::refused(x.number(), x.place()),
         SearchAnswer::ModelRefused(x) => show::refused(x.number(), x.place()),
         SearchAnswer::ShortSlice => show::refused(21, 0),
@@ -154,7 +157,10 @@ fn left_as_promised(
     run: &[u8],
 ) -> bool {
     match answer {
-        SearchAnswer::Answered(x) => kept(table, marks, useful, run, written(x)),
+        SearchAnswer::Answered {
+            searched: x,
+            rule: _,
+        } => kept(table, marks, useful, run, written(x)),
         SearchAnswer::RuleRefused(_) => untouched(table, marks, useful, run),
         SearchAnswer::ModelRefused(_) => untouched(table, marks, useful, run),
         SearchAnswer::ShortSlice => untouched(table, marks, useful, run),

@@ -1,16 +1,11 @@
-use Prim.Native.Nat.{ℕ, _≤_, _<_}
-use mathlib.Core.Path.{_≡_, refl, sym, ap, subst, _∙_}
+-- `search::long_enough` meets its contract. One test a slice.
+-- Assumes nothing.
+use Prim.Native.Nat.{_≤_}
 use native.Mathlib.Omega.{arith}
-use lib.ListN.{length, getD}
-use Rattle.tables.specs.Answer as tables
-use Rattle.models.specs.Stored.{modelOf}
+use lib.ListN.{length}
 use Rattle.search.proofs.Members.{says-no, says-le, says-same}
-use Rattle.search.proofs.Whole.{not-refused, lent-table, searches-of, length-given, lent-letters, lent-successors}
-use borrow.Author.Needs.{needs}
 use Rattle.search.proofs.long_enough.Statement.{statement}
 use Rattle.search.proofs.long_enough.Tie as tie
-use Rattle.search.proofs.long_enough.Reads as reads
-use Rattle.search.proofs.long_enough.Lts as lts
 
 returns : tie.Need-returns
 returns c = says-no (λ x. let h : 4096 ≤ length (c .before .args .table .now) = x .table-long in omega arith)
