@@ -1,7 +1,7 @@
 -- From the answers for the parts of a sequence to what a rule accepts. Assumes nothing.
 use mathlib.Core.Path.{_≡_, refl, ap, sym, subst, subst⁻¹, _∙_}
 use mathlib.Core.List.{List, [], _∷_, _++_, append-assoc}
-use mathlib.Core.Bool.{Bool, true, false}
+use mathlib.Core.Bool.{Bool, true}
 use mathlib.Core.Logic.{_⊎_, ⊎-elim, inl, inr, _≢_}
 use Prim.Native.Nat.{ℕ, zero, suc, _+_, _-_, _≤_, _<_}
 use native.Mathlib.Omega.{arith}
@@ -14,7 +14,7 @@ use Rattle.rules.specs.declared.kinds.Pair.the-variants.{Then, Overlap, Either,
 use Rattle.rules.specs.declared.kinds.Repeat.the-variants.{Star, Plus}
 use Rattle.rules.specs.Definition1.{Formula, Rule, letter, empty, two, again}
 use Rattle.rules.specs.Definition2.{holds, OneLetter, Parts, Overlaps, Begins, Repeats, none, more, Sat}
-use Rattle.judge.specs.Parts.{letterLimit, side, Few, part, yes, Judged, Filled}
+use Rattle.judge.specs.Parts.{Few, part, yes, Judged, Filled}
 use Rattle.judge.specs.Cut.{LetterAt, ThenAt, OverlapAt, BeginsAt, WithinAt, PairAt, StepAt, StarAt, PlusOf}
 use Rattle.judge.proofs.Sayings.{says-map, says-in}
 

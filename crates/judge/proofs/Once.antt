@@ -11,8 +11,7 @@ use Rattle.rules.specs.Definition1.{Rule}
 use Rattle.rules.specs.Definition2.{Sat}
 use Rattle.rules.specs.Kinds.{pick}
 use Rattle.rules.specs.Refusals.{number, place}
-use Rattle.rules.specs.Answer as rules
-use Rattle.rules.specs.Answer.{answer, AcceptedAs, knownOf}
+use Rattle.rules.specs.Answer.{AcceptedAs, knownOf}
 use Rattle.rules.proofs.Accepting.{not-refused, accepted-once}
 use Rattle.rules.proofs.Once.{named, named-told, of-a-rule}
 use Rattle.judge.specs.declared.JudgeAnswer.{JudgeAnswer}

@@ -1,6 +1,6 @@
 // Definition 2 at one part of the letters, over the answers of the operands: a function for each operator.
 ghost use mathlib.Core.Path.{_≡_};
-ghost use Prim.Native.Nat.{ℕ, _<_};
+ghost use Prim.Native.Nat.{_<_};
 ghost use Rattle.bits.specs.Says.{Says};
 ghost use Rattle.judge.specs.Parts.{side, yes};
 ghost use Rattle.judge.specs.Cut.{ThenAt, OverlapAt, BeginsAt, WithinAt, PairAt, StarAt, CellAt};

@@ -1,6 +1,6 @@
 // The answers of a rule for all parts of the letters at once, from its operands' answers.
 ghost use mathlib.Core.Path.{_≡_};
-ghost use Prim.Native.Nat.{ℕ, _<_};
+ghost use Prim.Native.Nat.{_<_};
 ghost use Rattle.rules.specs.Places.{GoodFormula};
 ghost use Rattle.judge.specs.Parts.{side, RowOf, Filled};
 ghost use Rattle.judge.specs.Cut.{CellAt, PairAt, StarAt, PlusOf};

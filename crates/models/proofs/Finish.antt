@@ -13,7 +13,7 @@ use Rattle.models.specs.declared.Counted.{Counted}
 use Rattle.models.specs.declared.Counted.the-variants.{States, Fault}
 use Rattle.models.specs.declared.ModelData.{ModelData}
 use Rattle.models.specs.declared.ModelRead.{ModelRead}
-use Rattle.models.specs.Reading.{Outcome, good, fault, letter, flag, successors, records, linked, thenLinked, Whole}
+use Rattle.models.specs.Reading.{Outcome, good, letter, flag, successors, records, linked, thenLinked, Whole}
 use Rattle.models.specs.Stored.{column, stored, Held}
 use Rattle.models.specs.Answer.{number, place, Result, accepted, refusedAs, given, answer, told, onward, counted}
 use Rattle.models.proofs.Passes.{counts}

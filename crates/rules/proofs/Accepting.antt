@@ -2,7 +2,7 @@
 -- and the accepted strings of bytes are exactly the spellings of rules within the limits. Assumes nothing.
 use Prim.Native.Nat.{ℕ, _≤_}
 use native.Mathlib.Omega.{arith}
-use mathlib.Core.Path.{_≡_, refl, sym, ap, subst, _∙_}
+use mathlib.Core.Path.{_≡_, refl, sym, subst, _∙_}
 use mathlib.Core.Bool.{Bool, true, false}
 use mathlib.Core.Logic.{_↔_}
 use mathlib.Core.List.{List}
@@ -16,7 +16,7 @@ use Rattle.rules.specs.Weight.{weightOf, weightLimit}
 use Rattle.rules.specs.Reading.{Outcome, good, fault}
 use Rattle.rules.specs.Encoding.{spell, Small}
 use Rattle.rules.specs.Places.{RuleAt, GoodRule}
-use Rattle.rules.specs.Answer.{longestRule, Result, accepted, refused, parse, knownOf, weighed, answer, AcceptedAs}
+use Rattle.rules.specs.Answer.{longestRule, accepted, refused, parse, knownOf, weighed, answer, AcceptedAs}
 use Rattle.rules.proofs.Encode.{read-is-spelt, spelt-is-read}
 use Rattle.rules.proofs.Stands.{stands}
 

@@ -1,6 +1,5 @@
 -- The bytes that are read as a rule are that rule's spelling, and the spelling of a rule is read as it. Assumes nothing.
-use Prim.Native.Nat.{ℕ, _+_, _≤_, _<_}
-use native.Mathlib.Nat.{add-assoc}
+use Prim.Native.Nat.{ℕ, _+_, _≤_}
 use native.Mathlib.Omega.{arith}
 use native.Mathlib.Numerals.{add-one}
 use mathlib.Core.Path.{_≡_, refl, sym, ap, ap₂, subst, _∙_}
@@ -8,7 +7,7 @@ use mathlib.Core.Logic.{_⊎_, inl, inr, ⊎-elim}
 use mathlib.Core.Bool.{Bool, true, false}
 use mathlib.Core.List.{List, [], _∷_, _++_, append-assoc, append-nil}
 use lib.Dec.{eqb, leb}
-use lib.ListN.{length, getD, drop, length-append, drop-of-length-le}
+use lib.ListN.{length, getD, drop, length-append}
 use lib.Seq.{drop-cons}
 use borrow.Author.Tests.{eqb-true, le-leb, leb-true}
 use Rattle.rules.specs.declared.kinds.Junction.{Junction}
@@ -25,7 +24,7 @@ use Rattle.rules.specs.declared.kinds.Kind.{Kind}
 use Rattle.rules.specs.declared.kinds.Kind.the-variants.{OfFormula, OfRule, Unknown}
 use Rattle.rules.specs.Definition1.{Formula, prop, yea, nay, neg, join, Rule, letter, empty, two, again}
 use Rattle.rules.specs.Kinds.{Row, table, lookup, kindOf, pick}
-use Rattle.rules.specs.Reading.{Outcome, good, fault, Need, rule, formula, body, Value, Rest, scan, takeRule, takeFormula}
+use Rattle.rules.specs.Reading.{good, fault, Need, rule, formula, body, Value, Rest, scan, takeRule, takeFormula}
 use Rattle.rules.specs.Places.{Here, FormulaAt, a-prop, a-yea, a-nay, a-neg, a-join, RuleAt, a-letter, a-empty, a-two, a-again}
 use Rattle.rules.specs.Encoding.{junctionByte, pairByte, repeatByte, spellF, spell, SmallF, Small}
 use Rattle.rules.specs.Answer.{parse}

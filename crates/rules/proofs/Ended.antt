@@ -12,7 +12,7 @@ use Rattle.rules.specs.declared.kinds.Kind.{Kind}
 use Rattle.rules.specs.declared.kinds.Kind.the-variants.{OfFormula, OfRule, Unknown}
 use Rattle.rules.specs.Definition1.{Formula, prop, yea, nay, neg, join, Rule, letter, empty, two, again}
 use Rattle.rules.specs.Kinds.{kindOf, pick}
-use Rattle.rules.specs.Reading.{Outcome, good, fault, Need, rule, formula, body, Rest, scan, takeRule, takeFormula}
+use Rattle.rules.specs.Reading.{fault, Need, rule, formula, body, Rest, scan, takeRule, takeFormula}
 use Rattle.rules.specs.Answer.{parse}
 
 other : (n m : ℕ) (a p q : ℕ) → fault n a ≡ fault m p → (n ≡ m → ⊥) → p ≡ q

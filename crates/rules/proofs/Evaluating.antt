@@ -1,20 +1,19 @@
 -- What the formula evaluator promises, put together from what its calls promise: one law for each arm. Assumes nothing.
-use Prim.Native.Nat.{ℕ, _+_, _<_}
+use Prim.Native.Nat.{ℕ, _+_}
 use mathlib.Core.Path.{_≡_, refl, sym, ap, _∙_}
 use mathlib.Core.Bool.{Bool, true, false, not}
 use mathlib.Core.List.{List}
 use native.Mathlib.Omega.{arith}
 use lib.ListN.{getD}
-use Rattle.bits.specs.Word.{bit, word, insert}
+use Rattle.bits.specs.Word.{bit, insert}
 use Rattle.bits.proofs.Laws.{word-step, word-skip}
 use Rattle.rules.specs.declared.kinds.Junction.{Junction}
 use Rattle.rules.specs.declared.kinds.FormulaKind.the-variants.{Proposition, Truth, Falsity, Not, Join}
 use Rattle.rules.specs.declared.kinds.Kind.the-variants.{OfFormula}
 use Rattle.rules.specs.declared.formulas.Held.{Held}
-use Rattle.rules.specs.Definition1.{Formula, prop, neg, join}
+use Rattle.rules.specs.Definition1.{Formula}
 use Rattle.rules.specs.Definition2.{holds, joined}
 use Rattle.rules.specs.Kinds.{kindOf}
-use Rattle.rules.specs.Places.{FormulaAt}
 use Rattle.rules.specs.Walks.{HoldsAs, LabelUpTo}
 use Rattle.rules.proofs.Unique.{formula-of}
 

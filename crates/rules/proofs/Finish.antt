@@ -1,9 +1,9 @@
 -- From what `rule_end` and `weight_at` promise at place 0 to the answer of the whole. Assumes nothing.
 use Prim.Native.Nat.{ℕ, _<_, _≤_, min}
 use native.Mathlib.Omega.{arith}
-use mathlib.Core.Path.{_≡_, refl, sym, ap, _∙_}
+use mathlib.Core.Path.{_≡_, sym, ap, _∙_}
 use mathlib.Core.List.{List, []}
-use lib.ListN.{length, getD, drop, drop-of-length-le}
+use lib.ListN.{length, drop-of-length-le}
 use lib.Seq.{drop-cons}
 use borrow.Author.Tests.{lt-ltb, le-ltb, le-leb, lt-leb}
 use Rattle.rules.specs.declared.Refusal.{Refusal}
@@ -15,7 +15,7 @@ use Rattle.rules.specs.Refusals.{number, place}
 use Rattle.rules.specs.Reading.{Outcome, good, fault, scan}
 use Rattle.rules.specs.Places.{RuleAt}
 use Rattle.rules.specs.Walks.{RuleRead, shown, WeighedAs}
-use Rattle.rules.specs.Answer.{longestRule, Result, accepted, refused, parse, weighed, answer}
+use Rattle.rules.specs.Answer.{longestRule, accepted, refused, parse, weighed, answer}
 use Rattle.rules.proofs.Scan.{over-rule}
 
 heavy-as : (r : Rule) (w : ℕ) → w ≡ min countedTo (weightOf r) → weightLimit < w → weighed (good r) ≡ refused 7 0

@@ -1,25 +1,19 @@
 -- Laws of `scan`: a step of it at a place of the bytes, the faults, and that it passes over what stands spelled.
 -- Assumes nothing.
-use Prim.Native.Nat.{ℕ, suc, _+_, _<_, _≤_}
+use Prim.Native.Nat.{ℕ, _+_, _<_, _≤_}
 use native.Mathlib.Numerals.{add-one}
 use native.Mathlib.Omega.{arith}
-use mathlib.Core.Path.{_≡_, refl, sym, ap, subst, _∙_}
-use mathlib.Core.List.{List, [], _∷_}
+use mathlib.Core.Path.{_≡_, sym, ap, _∙_}
+use mathlib.Core.List.{List, _∷_}
 use lib.ListN.{length, getD, drop, drop-of-length-le}
 use lib.Seq.{drop-cons}
-use lib.Dec.{leb}
 use borrow.Author.Tests.{le-leb, lt-leb}
-use Rattle.rules.specs.declared.kinds.FormulaKind.{FormulaKind}
-use Rattle.rules.specs.declared.kinds.RuleKind.{RuleKind}
 use Rattle.rules.specs.declared.kinds.Kind.{Kind}
-use Rattle.rules.specs.declared.kinds.Kind.the-variants.{OfFormula, OfRule, Unknown}
-use Rattle.rules.specs.declared.Refusal.{Refusal}
-use Rattle.rules.specs.declared.Refusal.the-variants.{TooLong, Ended, UnknownKind, WrongSort, NoProposition, Leftover, TooHeavy}
-use Rattle.rules.specs.Definition1.{Formula, prop, yea, nay, neg, join, Rule, letter, empty, two, again}
-use Rattle.rules.specs.Kinds.{kindOf, pick}
-use Rattle.rules.specs.Reading.{Outcome, fault, Need, rule, formula, body, Value, Rest, scan, takeByte, takeRule, takeFormula}
+use Rattle.rules.specs.declared.Refusal.the-variants.{Ended, NoProposition}
+use Rattle.rules.specs.Definition1.{Formula, prop, neg, join, Rule, letter, two, again}
+use Rattle.rules.specs.Reading.{Need, rule, formula, body, Value, Rest, scan, takeByte, takeRule, takeFormula}
 use Rattle.rules.specs.Places.{Here, FormulaAt, a-prop, a-yea, a-nay, a-neg, a-join, RuleAt, a-letter, a-empty, a-two, a-again}
-use Rattle.rules.specs.Walks.{Fails, shown}
+use Rattle.rules.specs.Walks.{Fails}
 
 module _ (s : List ℕ) where
   -- a byte is there: one step

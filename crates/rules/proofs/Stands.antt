@@ -4,15 +4,10 @@ use native.Mathlib.Omega.{arith}
 use native.Mathlib.Numerals.{add-one}
 use mathlib.Core.Path.{_≡_, refl, sym, ap, subst, _∙_}
 use mathlib.Core.List.{List, [], _∷_, _++_, append-assoc, append-nil}
-use mathlib.Core.Logic.{⊎-elim}
 use lib.ListN.{length, getD, drop, length-drop, drop-of-length-le}
 use lib.Seq.{drop-cons}
 use native.Mathlib.Decide.{decLt}
-use Rattle.rules.specs.declared.kinds.Junction.{Junction}
 use Rattle.rules.specs.declared.kinds.Kind.{Kind}
-use Rattle.rules.specs.declared.kinds.Kind.the-variants.{OfFormula, OfRule, Unknown}
-use Rattle.rules.specs.declared.kinds.FormulaKind.the-variants.{Proposition, Truth, Falsity, Not, Join}
-use Rattle.rules.specs.declared.kinds.RuleKind.the-variants.{Letter, Empty, Two, Again}
 use Rattle.rules.specs.Definition1.{Formula, prop, yea, nay, neg, join, Rule, letter, empty, two, again}
 use Rattle.rules.specs.Kinds.{kindOf}
 use Rattle.rules.specs.Reading.{good}

@@ -1,8 +1,8 @@
 -- What the readers promise, put together from what their calls promise: one law for each arm. Assumes nothing.
-use Prim.Native.Nat.{ℕ, _+_, _<_, _≤_}
-use mathlib.Core.Path.{_≡_, refl, _∙_}
-use mathlib.Core.List.{List, [], _∷_}
-use lib.ListN.{length, getD}
+use Prim.Native.Nat.{ℕ, _+_}
+use mathlib.Core.Path.{refl, _∙_}
+use mathlib.Core.List.{List, _∷_}
+use lib.ListN.{getD}
 use Rattle.rules.specs.declared.kinds.Junction.{Junction}
 use Rattle.rules.specs.declared.kinds.FormulaKind.the-variants.{Proposition, Truth, Falsity, Not, Join}
 use Rattle.rules.specs.declared.kinds.Pair.{Pair}
@@ -10,16 +10,15 @@ use Rattle.rules.specs.declared.kinds.Repeat.{Repeat}
 use Rattle.rules.specs.declared.kinds.RuleKind.{RuleKind}
 use Rattle.rules.specs.declared.kinds.RuleKind.the-variants.{Letter, Empty, Two, Again}
 use Rattle.rules.specs.declared.kinds.FormulaKind.{FormulaKind}
-use Rattle.rules.specs.declared.kinds.Kind.{Kind}
 use Rattle.rules.specs.declared.kinds.Kind.the-variants.{OfFormula, OfRule, Unknown}
 use Rattle.rules.specs.declared.Refusal.{Refusal}
-use Rattle.rules.specs.declared.Refusal.the-variants.{TooLong, Ended, UnknownKind, WrongSort, NoProposition, Leftover, TooHeavy}
+use Rattle.rules.specs.declared.Refusal.the-variants.{UnknownKind, WrongSort}
 use Rattle.rules.specs.declared.ends.Read.{Read}
 use Rattle.rules.specs.declared.ends.Read.the-variants.{Ends, Refused}
-use Rattle.rules.specs.Definition1.{Formula, prop, yea, nay, neg, join, Rule, letter, empty, two, again}
-use Rattle.rules.specs.Reading.{Outcome, fault, Need, rule, formula, body, Value, Rest, scan, takeByte, takeRule, takeFormula}
-use Rattle.rules.specs.Places.{Here, FormulaAt, a-prop, a-yea, a-nay, a-neg, a-join, RuleAt, a-letter, a-empty, a-two, a-again}
-use Rattle.rules.specs.Walks.{Fails, BodyRead, FormulaRead, RuleRead, shown}
+use Rattle.rules.specs.Definition1.{prop, yea, nay, neg, join, letter, empty, two, again}
+use Rattle.rules.specs.Reading.{rule, formula}
+use Rattle.rules.specs.Places.{Here, a-prop, a-yea, a-nay, a-neg, a-join, a-letter, a-empty, a-two, a-again}
+use Rattle.rules.specs.Walks.{BodyRead, FormulaRead, RuleRead}
 use Rattle.rules.proofs.Scan.{seen-formula, seen-rule, over-formula, over-rule}
 
 module _ (s : List ℕ) (at : ℕ) where

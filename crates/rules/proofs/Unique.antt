@@ -17,10 +17,9 @@ use Rattle.rules.specs.declared.ends.Read.{Read}
 use Rattle.rules.specs.declared.ends.Read.the-variants.{Ends, Refused}
 use Rattle.rules.specs.Definition1.{Formula, prop, yea, nay, neg, join, Rule, letter, empty, two, again}
 use Rattle.rules.specs.Kinds.{kindOf, pick}
-use Rattle.rules.specs.Refusals.{number, place}
-use Rattle.rules.specs.Reading.{Outcome, good, fault, Need, rule, formula, body, Value, Rest, scan}
+use Rattle.rules.specs.Reading.{good, fault, Need, body, Rest, scan}
 use Rattle.rules.specs.Places.{Here, FormulaAt, a-prop, a-yea, a-nay, a-neg, a-join, RuleAt, a-letter, a-empty, a-two, a-again}
-use Rattle.rules.specs.Walks.{Fails, FormulaRead, RuleRead, shown}
+use Rattle.rules.specs.Walks.{FormulaRead, RuleRead, shown}
 use Rattle.rules.proofs.Scan.{over-formula, over-rule}
 
 -- what a formula's kind byte tells of the formula that stands there

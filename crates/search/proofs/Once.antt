@@ -10,8 +10,7 @@ use Rattle.rules.specs.Definition1.{Rule}
 use Rattle.rules.specs.Kinds.{pick}
 use Rattle.rules.specs.Weight.{weightOf}
 use Rattle.rules.specs.Refusals as rule-refusals
-use Rattle.rules.specs.Answer as rules
-use Rattle.rules.specs.Answer.{AcceptedAs, knownOf}
+use Rattle.rules.specs.Answer.{knownOf}
 use Rattle.rules.proofs.Accepting.{not-refused, accepted-once}
 use Rattle.rules.proofs.Once.{named, named-told, of-a-rule}
 use Rattle.tables.specs.declared.TableAnswer.the-variants.{Tabled}

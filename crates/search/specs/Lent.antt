@@ -5,7 +5,20 @@ use mathlib.Core.List.{List}
 use lib.Dec.{T}
 use lib.ListN.{length, getD}
 use Rattle.rules.specs.Definition2.{letterCount}
-use Rattle.tables.specs.Table.{tableOf}
+use Rattle.tables.specs.Table.{Table, tableOf}
+use Rattle.models.specs.Model.{Model}
+use Rattle.models.specs.Stored.{modelWith}
+use Rattle.search.specs.declared.shape.Sizes.{Sizes}
+
+-- the model and the table that are searched; and the table's labels alone, where no finals are asked for
+abbrev pub modelIn : Sizes → List ℕ → List ℕ → Model
+modelIn sizes letters successors = modelWith (sizes .states) letters (sizes .initial) successors
+
+abbrev pub tableIn : Sizes → List ℕ → Table
+tableIn sizes table = tableOf table (sizes .weight) (sizes .finals)
+
+abbrev pub labelsIn : Sizes → List ℕ → Table
+labelsIn sizes table = tableOf table (sizes .weight) 0
 
 -- the table: 4,096 labels, 1 to 64 states, and nothing enters state 0
 pub record LentTable (table : List ℕ) (weight : ℕ) : Type 0 where

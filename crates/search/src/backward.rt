@@ -4,9 +4,7 @@ ghost use Prim.Native.Nat.{ℕ, _+_, _<_, _≤_};
 ghost use lib.Dec.{T};
 ghost use lib.ListN.{length, getD};
 ghost use Rattle.bits.specs.Word.{bit};
-ghost use Rattle.tables.specs.Table.{tableOf};
-ghost use Rattle.models.specs.Stored.{modelWith};
-ghost use Rattle.search.specs.Lent.{Beyond, LentTable, LentLetters};
+ghost use Rattle.search.specs.Lent.{modelIn, tableIn, labelsIn, Beyond, LentTable, LentLetters};
 ghost use Rattle.search.specs.Passes.{view, Members, Step, Below, Led, SeedRow, SettleRow, Marked, Useful};
 use crate::marks::kept;
 use crate::marks::mark_row;
@@ -26,7 +24,7 @@ fn led(
     t: usize,
 ) -> u64
     requires { ⌜ LentTable (now table) (sizes .weight) × LentLetters (now letters) (sizes .states) × (4096 ≤ length (now marks)) × (4096 ≤ length (now useful)) × (t < sizes .states) × (front .level < 4096) ⌝ }
-    ensures { λ r. ⌜ Members r (Led (tableOf (now (table .entry)) (sizes .weight) 0) (now (letters .entry)) (front .next) (λ q. T (bit (front .held) q)) (now (marks .entry)) (now (useful .entry)) (front .level + 1) t) ⌝ }
+    ensures { λ r. ⌜ Members r (Led (labelsIn sizes (now (table .entry))) (now (letters .entry)) (front .next) (λ q. T (bit (front .held) q)) (now (marks .entry)) (now (useful .entry)) (front .level + 1) t) ⌝ }
 {
     if bits::has(front.next, t) {
         let there = kept(marks, useful, sizes.weight, t, front.level + 1);
@@ -49,7 +47,7 @@ fn led_all(
     front: Front,
 ) -> u64
     requires { ⌜ LentTable (now table) (sizes .weight) × LentLetters (now letters) (sizes .states) × (4096 ≤ length (now marks)) × (4096 ≤ length (now useful)) × (front .level < 4096) ⌝ }
-    ensures { λ r. ⌜ Members r (Below (Led (tableOf (now (table .entry)) (sizes .weight) 0) (now (letters .entry)) (front .next) (λ q. T (bit (front .held) q)) (now (marks .entry)) (now (useful .entry)) (front .level + 1)) (sizes .states)) ⌝ }
+    ensures { λ r. ⌜ Members r (Below (Led (labelsIn sizes (now (table .entry))) (now (letters .entry)) (front .next) (λ q. T (bit (front .held) q)) (now (marks .entry)) (now (useful .entry)) (front .level + 1)) (sizes .states)) ⌝ }
 {
     let states = sizes.states;
     let mut set: u64 = 0;
@@ -71,7 +69,7 @@ fn settle_row(
     level: u16,
 )
     requires { ⌜ LentTable (now table) (sizes .weight) × LentLetters (now letters) (sizes .states) × (sizes .states ≤ length (now successors)) × (4096 ≤ length (now marks)) × (4096 ≤ length (now useful)) × (s < sizes .states) × (level < 4096) ⌝ }
-    ensures { λ _. ⌜ ((c : ℕ) × Step 0 (now (useful .entry)) (now (useful .exit)) (SettleRow (tableOf (now (table .entry)) (sizes .weight) 0) (now (letters .entry)) (sizes .states) (now (successors .entry)) (now (marks .entry)) (now (useful .entry)) level s) c) ⌝ }
+    ensures { λ _. ⌜ ((c : ℕ) × Step 0 (now (useful .entry)) (now (useful .exit)) (SettleRow (labelsIn sizes (now (table .entry))) (now (letters .entry)) (sizes .states) (now (successors .entry)) (now (marks .entry)) (now (useful .entry)) level s) c) ⌝ }
 {
     let held = on_level(marks, sizes.weight, s, level);
     if held == 0 {
@@ -100,7 +98,7 @@ fn settle(
     level: u16,
 )
     requires { ⌜ LentTable (now table) (sizes .weight) × LentLetters (now letters) (sizes .states) × (sizes .states ≤ length (now successors)) × (4096 ≤ length (now marks)) × (4096 ≤ length (now useful)) × (level < 4096) ⌝ }
-    ensures { λ _. ⌜ ((c : ℕ) × Step 0 (now (useful .entry)) (now (useful .exit)) (Below (SettleRow (tableOf (now (table .entry)) (sizes .weight) 0) (now (letters .entry)) (sizes .states) (now (successors .entry)) (now (marks .entry)) (now (useful .entry)) level) (sizes .states)) c) ⌝ }
+    ensures { λ _. ⌜ ((c : ℕ) × Step 0 (now (useful .entry)) (now (useful .exit)) (Below (SettleRow (labelsIn sizes (now (table .entry))) (now (letters .entry)) (sizes .states) (now (successors .entry)) (now (marks .entry)) (now (useful .entry)) level) (sizes .states)) c) ⌝ }
 {
     let states = sizes.states;
     for s in 0..states {
@@ -130,8 +128,8 @@ pub fn backward(
     sizes: Sizes,
     level: u16,
 )
-    requires { ⌜ LentTable (now table) (sizes .weight) × LentLetters (now letters) (sizes .states) × (sizes .states ≤ length (now successors)) × (4096 ≤ length (now marks)) × (4096 ≤ length (now useful)) × (level < 4096) × ((i : ℕ) → i < 4096 → getD (now useful) i 0 ≡ 0) × ((c : ℕ) × Marked (modelWith (sizes .states) (now letters) (sizes .initial) (now successors)) (tableOf (now table) (sizes .weight) (sizes .finals)) level c (now marks)) ⌝ }
-    ensures { λ _. ⌜ Beyond 4096 (now (useful .entry)) (now (useful .exit)) × Useful (modelWith (sizes .states) (now (letters .entry)) (sizes .initial) (now (successors .entry))) (tableOf (now (table .entry)) (sizes .weight) (sizes .finals)) level (view (now (marks .entry))) 1 (view (now (useful .exit))) ⌝ }
+    requires { ⌜ LentTable (now table) (sizes .weight) × LentLetters (now letters) (sizes .states) × (sizes .states ≤ length (now successors)) × (4096 ≤ length (now marks)) × (4096 ≤ length (now useful)) × (level < 4096) × ((i : ℕ) → i < 4096 → getD (now useful) i 0 ≡ 0) × ((c : ℕ) × Marked (modelIn sizes (now letters) (now successors)) (tableIn sizes (now table)) level c (now marks)) ⌝ }
+    ensures { λ _. ⌜ Beyond 4096 (now (useful .entry)) (now (useful .exit)) × Useful (modelIn sizes (now (letters .entry)) (now (successors .entry))) (tableIn sizes (now (table .entry))) level (view (now (marks .entry))) 1 (view (now (useful .exit))) ⌝ }
 {
     seed(marks, useful, sizes, level);
     let mut at = level;

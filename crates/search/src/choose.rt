@@ -5,9 +5,7 @@ ghost use lib.Dec.{T};
 ghost use lib.ListN.{length, take};
 ghost use Rattle.bits.specs.Word.{bit};
 ghost use Rattle.bits.specs.Says.{Says};
-ghost use Rattle.tables.specs.Table.{tableOf};
-ghost use Rattle.models.specs.Stored.{modelWith};
-ghost use Rattle.search.specs.Lent.{Beyond, LentTable, LentLetters};
+ghost use Rattle.search.specs.Lent.{modelIn, tableIn, labelsIn, Beyond, LentTable, LentLetters};
 ghost use Rattle.search.specs.Passes.{Members, Under, Onward, CanNext, Ready, Picked};
 use crate::marks::kept;
 use crate::sets::add_if;
@@ -27,7 +25,7 @@ fn onward(
     t: usize,
 ) -> u64
     requires { ⌜ LentTable (now table) (sizes .weight) × LentLetters (now letters) (sizes .states) × (4096 ≤ length (now marks)) × (4096 ≤ length (now useful)) × (t < sizes .states) × (front .level < 4096) ⌝ }
-    ensures { λ r. ⌜ Members r (Onward (tableOf (now (table .entry)) (sizes .weight) 0) (now (letters .entry)) (λ q. T (bit (front .held) q)) (now (marks .entry)) (now (useful .entry)) (front .level + 1) t) ⌝ }
+    ensures { λ r. ⌜ Members r (Onward (labelsIn sizes (now (table .entry))) (now (letters .entry)) (λ q. T (bit (front .held) q)) (now (marks .entry)) (now (useful .entry)) (front .level + 1) t) ⌝ }
 {
     let x = letters[t] as usize;
     reached(table, sizes.weight, front.held, x)
@@ -45,7 +43,7 @@ fn can_next(
     t: usize,
 ) -> bool
     requires { ⌜ LentTable (now table) (sizes .weight) × LentLetters (now letters) (sizes .states) × (4096 ≤ length (now marks)) × (4096 ≤ length (now useful)) × (t < sizes .states) × (front .level < 4096) ⌝ }
-    ensures { λ r. ⌜ Says r (CanNext (tableOf (now (table .entry)) (sizes .weight) 0) (now (letters .entry)) (front .next) (λ q. T (bit (front .held) q)) (now (marks .entry)) (now (useful .entry)) (front .level + 1) t) ⌝ }
+    ensures { λ r. ⌜ Says r (CanNext (labelsIn sizes (now (table .entry))) (now (letters .entry)) (front .next) (λ q. T (bit (front .held) q)) (now (marks .entry)) (now (useful .entry)) (front .level + 1) t) ⌝ }
 {
     if bits::has(front.next, t) {
         return onward(table, letters, marks, useful, sizes, front, t) != 0;
@@ -63,7 +61,7 @@ fn choices(
     front: Front,
 ) -> u64
     requires { ⌜ LentTable (now table) (sizes .weight) × LentLetters (now letters) (sizes .states) × (4096 ≤ length (now marks)) × (4096 ≤ length (now useful)) × (front .level < 4096) ⌝ }
-    ensures { λ r. ⌜ Members r (Under (CanNext (tableOf (now (table .entry)) (sizes .weight) 0) (now (letters .entry)) (front .next) (λ q. T (bit (front .held) q)) (now (marks .entry)) (now (useful .entry)) (front .level + 1)) (sizes .states)) ⌝ }
+    ensures { λ r. ⌜ Members r (Under (CanNext (labelsIn sizes (now (table .entry))) (now (letters .entry)) (front .next) (λ q. T (bit (front .held) q)) (now (marks .entry)) (now (useful .entry)) (front .level + 1)) (sizes .states)) ⌝ }
 {
     let states = sizes.states;
     let mut set: u64 = 0;
@@ -88,8 +86,8 @@ pub fn pick(
     sizes: Sizes,
     long: u16,
 )
-    requires { ⌜ LentTable (now table) (sizes .weight) × LentLetters (now letters) (sizes .states) × (sizes .states ≤ length (now successors)) × (4096 ≤ length (now marks)) × (4096 ≤ length (now useful)) × (4096 ≤ length (now run)) × (long < 4096) × Ready (modelWith (sizes .states) (now letters) (sizes .initial) (now successors)) (tableOf (now table) (sizes .weight) (sizes .finals)) long (now marks) (now useful) ⌝ }
-    ensures { λ _. ⌜ Beyond long (now (run .entry)) (now (run .exit)) × Picked (modelWith (sizes .states) (now (letters .entry)) (sizes .initial) (now (successors .entry))) (tableOf (now (table .entry)) (sizes .weight) (sizes .finals)) long (take long (now (run .exit))) ⌝ }
+    requires { ⌜ LentTable (now table) (sizes .weight) × LentLetters (now letters) (sizes .states) × (sizes .states ≤ length (now successors)) × (4096 ≤ length (now marks)) × (4096 ≤ length (now useful)) × (4096 ≤ length (now run)) × (long < 4096) × Ready (modelIn sizes (now letters) (now successors)) (tableIn sizes (now table)) long (now marks) (now useful) ⌝ }
+    ensures { λ _. ⌜ Beyond long (now (run .entry)) (now (run .exit)) × Picked (modelIn sizes (now (letters .entry)) (now (successors .entry))) (tableIn sizes (now (table .entry))) long (take long (now (run .exit))) ⌝ }
 {
     let mut held = BEGIN;
     let mut next = sizes.initial;

@@ -4,9 +4,7 @@ ghost use Prim.Native.Nat.{ℕ, _<_, _≤_};
 ghost use lib.Dec.{T};
 ghost use lib.ListN.{length, getD};
 ghost use Rattle.bits.specs.Word.{bit};
-ghost use Rattle.tables.specs.Table.{tableOf};
-ghost use Rattle.models.specs.Stored.{modelWith};
-ghost use Rattle.search.specs.Lent.{Beyond, LentTable, LentLetters};
+ghost use Rattle.search.specs.Lent.{modelIn, tableIn, labelsIn, Beyond, LentTable, LentLetters};
 ghost use Rattle.search.specs.Passes.{Step, Below, Along, FromRow, FromAll, Ended};
 use crate::marks::final_all;
 use crate::marks::mark_row;
@@ -27,7 +25,7 @@ fn push_into(
     t: usize,
 ) -> usize
     requires { ⌜ LentTable (now table) (sizes .weight) × LentLetters (now letters) (sizes .states) × (4096 ≤ length (now marks)) × (t < sizes .states) × (front .level < 4096) ⌝ }
-    ensures { λ r. ⌜ (r ≤ 64) × Step (front .level) (now (marks .entry)) (now (marks .exit)) (Along (tableOf (now (table .entry)) (sizes .weight) 0) (now (letters .entry)) (front .next) (λ q. T (bit (front .held) q)) t) r ⌝ }
+    ensures { λ r. ⌜ (r ≤ 64) × Step (front .level) (now (marks .entry)) (now (marks .exit)) (Along (labelsIn sizes (now (table .entry))) (now (letters .entry)) (front .next) (λ q. T (bit (front .held) q)) t) r ⌝ }
 {
     if bits::has(front.next, t) {
         let x = letters[t] as usize;
@@ -40,7 +38,7 @@ fn push_into(
 // The same in every row.
 fn push_all(table: &[u64], letters: &[u8], marks: &mut [u16], sizes: Sizes, front: Front) -> usize
     requires { ⌜ LentTable (now table) (sizes .weight) × LentLetters (now letters) (sizes .states) × (4096 ≤ length (now marks)) × (front .level < 4096) ⌝ }
-    ensures { λ r. ⌜ (r ≤ 4096) × Step (front .level) (now (marks .entry)) (now (marks .exit)) (Below (Along (tableOf (now (table .entry)) (sizes .weight) 0) (now (letters .entry)) (front .next) (λ q. T (bit (front .held) q))) (sizes .states)) r ⌝ }
+    ensures { λ r. ⌜ (r ≤ 4096) × Step (front .level) (now (marks .entry)) (now (marks .exit)) (Below (Along (labelsIn sizes (now (table .entry))) (now (letters .entry)) (front .next) (λ q. T (bit (front .held) q))) (sizes .states)) r ⌝ }
 {
     let states = sizes.states;
     let mut new: usize = 0;
@@ -61,7 +59,7 @@ fn push_row(
     level: u16,
 ) -> usize
     requires { ⌜ LentTable (now table) (sizes .weight) × LentLetters (now letters) (sizes .states) × (sizes .states ≤ length (now successors)) × (4096 ≤ length (now marks)) × (s < sizes .states) × (level < 4096) ⌝ }
-    ensures { λ r. ⌜ (r ≤ 4096) × Step level (now (marks .entry)) (now (marks .exit)) (FromRow (tableOf (now (table .entry)) (sizes .weight) 0) (now (letters .entry)) (sizes .states) (now (successors .entry)) level (now (marks .entry)) s) r ⌝ }
+    ensures { λ r. ⌜ (r ≤ 4096) × Step level (now (marks .entry)) (now (marks .exit)) (FromRow (labelsIn sizes (now (table .entry))) (now (letters .entry)) (sizes .states) (now (successors .entry)) level (now (marks .entry)) s) r ⌝ }
 {
     let held = on_level(marks, sizes.weight, s, level);
     if held == 0 {
@@ -81,7 +79,7 @@ fn round(
     level: u16,
 ) -> usize
     requires { ⌜ LentTable (now table) (sizes .weight) × LentLetters (now letters) (sizes .states) × (sizes .states ≤ length (now successors)) × (4096 ≤ length (now marks)) × (1 ≤ level) × (level < 4096) ⌝ }
-    ensures { λ r. ⌜ Step level (now (marks .entry)) (now (marks .exit)) (FromAll (tableOf (now (table .entry)) (sizes .weight) 0) (now (letters .entry)) (sizes .states) (now (successors .entry)) level (now (marks .entry))) r ⌝ }
+    ensures { λ r. ⌜ Step level (now (marks .entry)) (now (marks .exit)) (FromAll (labelsIn sizes (now (table .entry))) (now (letters .entry)) (sizes .states) (now (successors .entry)) level (now (marks .entry))) r ⌝ }
 {
     let states = sizes.states;
     let mut new: usize = 0;
@@ -100,7 +98,7 @@ pub fn forward(
     sizes: Sizes,
 ) -> Outcome
     requires { ⌜ LentTable (now table) (sizes .weight) × LentLetters (now letters) (sizes .states) × (sizes .states ≤ length (now successors)) × (4096 ≤ length (now marks)) × ((i : ℕ) → i < 4096 → getD (now marks) i 0 ≡ 0) ⌝ }
-    ensures { λ r. ⌜ Beyond 4096 (now (marks .entry)) (now (marks .exit)) × Ended (modelWith (sizes .states) (now (letters .entry)) (sizes .initial) (now (successors .entry))) (tableOf (now (table .entry)) (sizes .weight) (sizes .finals)) (r .found) (r .level) (r .count) (now (marks .exit)) ⌝ }
+    ensures { λ r. ⌜ Beyond 4096 (now (marks .entry)) (now (marks .exit)) × Ended (modelIn sizes (now (letters .entry)) (now (successors .entry))) (tableIn sizes (now (table .entry))) (r .found) (r .level) (r .count) (now (marks .exit)) ⌝ }
 {
     let mut level: u16 = 1;
     let mut fresh = push_all(

@@ -2,9 +2,7 @@
 ghost use mathlib.Core.Path.{_≡_};
 ghost use Prim.Native.Nat.{ℕ, _<_, _≤_};
 ghost use lib.ListN.{length, getD};
-ghost use Rattle.tables.specs.Table.{tableOf};
-ghost use Rattle.models.specs.Stored.{modelWith};
-ghost use Rattle.search.specs.Lent.{Beyond, LentTable, LentLetters};
+ghost use Rattle.search.specs.Lent.{modelIn, tableIn, Beyond, LentTable, LentLetters};
 ghost use Rattle.search.specs.Told.{Answers, SearchedTable};
 use crate::backward::backward;
 use crate::choose::pick;
@@ -31,7 +29,7 @@ fn passes(
     sizes: Sizes,
 ) -> Searched
     requires { ⌜ LentTable (now table) (sizes .weight) × LentLetters (now letters) (sizes .states) × (sizes .states ≤ length (now successors)) × (4096 ≤ length (now marks)) × (4096 ≤ length (now useful)) × (4096 ≤ length (now run)) × ((i : ℕ) → i < 4096 → getD (now marks) i 0 ≡ 0) × ((i : ℕ) → i < 4096 → getD (now useful) i 0 ≡ 0) ⌝ }
-    ensures { λ r. ⌜ Answers (modelWith (sizes .states) (now (letters .entry)) (sizes .initial) (now (successors .entry))) (tableOf (now (table .entry)) (sizes .weight) (sizes .finals)) r (now (run .entry)) (now (run .exit)) × Beyond 4096 (now (marks .entry)) (now (marks .exit)) × Beyond 4096 (now (useful .entry)) (now (useful .exit)) ⌝ }
+    ensures { λ r. ⌜ Answers (modelIn sizes (now (letters .entry)) (now (successors .entry))) (tableIn sizes (now (table .entry))) r (now (run .entry)) (now (run .exit)) × Beyond 4096 (now (marks .entry)) (now (marks .exit)) × Beyond 4096 (now (useful .entry)) (now (useful .exit)) ⌝ }
 {
     let outcome = forward(table, letters, successors, marks, sizes);
     let pairs = outcome.count;
@@ -56,7 +54,7 @@ pub fn search_table(
     sizes: Sizes,
 ) -> Searched
     requires { ⌜ LentTable (now table) (sizes .weight) × LentLetters (now letters) (sizes .states) × (sizes .states ≤ length (now successors)) × (4096 ≤ length (now marks)) × (4096 ≤ length (now useful)) × (4096 ≤ length (now run)) ⌝ }
-    ensures { λ r. ⌜ SearchedTable (modelWith (sizes .states) (now (letters .entry)) (sizes .initial) (now (successors .entry))) (tableOf (now (table .entry)) (sizes .weight) (sizes .finals)) r (now (marks .entry)) (now (marks .exit)) (now (useful .entry)) (now (useful .exit)) (now (run .entry)) (now (run .exit)) ⌝ }
+    ensures { λ r. ⌜ SearchedTable (modelIn sizes (now (letters .entry)) (now (successors .entry))) (tableIn sizes (now (table .entry))) r (now (marks .entry)) (now (marks .exit)) (now (useful .entry)) (now (useful .exit)) (now (run .entry)) (now (run .exit)) ⌝ }
 {
     clear(marks);
     clear(useful);

@@ -26,7 +26,7 @@ use Rattle.tables.specs.Block.{FinalsAt, Built, anyRule}
 use Rattle.tables.specs.Sets.{Raised}
 use Rattle.tables.specs.Shapes.{Fits, ShapedAs}
 use Rattle.tables.specs.Building.{Ready, Stand, BuiltAt, BuiltAgain, BuiltPair, BuiltLeft, BuiltRight}
-use Rattle.tables.proofs.Serving.{weight-pos}
+use Rattle.rules.proofs.Weighing.{weight-pos}
 use Rattle.tables.proofs.FinalSets.{raise-finals}
 use Rattle.tables.proofs.Crossings.{then-built, overlap-built}
 use Rattle.tables.proofs.Choices.{either-built}

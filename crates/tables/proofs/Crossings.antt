@@ -15,7 +15,8 @@ use Rattle.tables.proofs.Labels.{Has, has-linked, overlapped-out, overl
 use Rattle.tables.proofs.Thens.{then-aa, then-ab, then-bb}
 use Rattle.tables.proofs.Overlaps.{overlap-aa, overlap-ab, overlap-bb}
 use Rattle.tables.proofs.Language.{good, size-weight}
-use Rattle.tables.proofs.Serving.{weight-pos, step-inside, final-inside}
+use Rattle.rules.proofs.Weighing.{weight-pos}
+use Rattle.tables.proofs.Serving.{step-inside, final-inside}
 use Rattle.tables.proofs.Places.{split, by-cell, by-none, drop-none, block-at, drop-sum, final-at, Beside, beside}
 
 module _ (t t₂ t₃ : List ℕ) (base : ℕ) (a b : Rule) (g : ℕ → ℕ → ℕ) (room : base + weightOf a + weightOf b ≤ 64) (s : Beside t t₂ base base a b)

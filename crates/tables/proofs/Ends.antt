@@ -3,17 +3,16 @@ use Prim.Native.Nat.{ℕ, _+_, _*_, _-_, _/_, _%_, _<_, _≤_}
 use native.Mathlib.Omega.{arith}
 use native.Mathlib.Nat.{mod-lt, div-add-mod', div-lt-iff-lt-mul}
 use mathlib.Core.Path.{_≡_, refl, sym, ap, _∙_}
-use mathlib.Core.Logic.{_⊎_, inl, inr, ⊎-map, _↔_, Iff·trans}
-use mathlib.Core.Bool.{Bool, true, false, _&&_, _||_}
+use mathlib.Core.Logic.{_⊎_, inl, inr, ⊎-map, _↔_}
+use mathlib.Core.Bool.{true, false, _&&_}
 use lib.Bits.{bitOr}
 use lib.Dec.{T, eqb, eqb→eq, eqb-refl}
 use Rattle.bits.specs.Word.{bit, insert}
-use Rattle.bits.proofs.Laws.{lt-or-ge, bit-insert, bit-zero}
+use Rattle.bits.proofs.Laws.{lt-or-ge, bit-insert}
 use Rattle.rules.specs.declared.kinds.Pair.the-variants.{Then, Overlap, Either, Within, Both}
 use Rattle.rules.specs.declared.kinds.Repeat.the-variants.{Star, Plus}
 use Rattle.rules.specs.Definition1.{Rule, Formula, letter, empty, two, again}
 use Rattle.rules.specs.Weight.{weightOf}
-use Rattle.tables.specs.Auto.{Auto}
 use Rattle.tables.specs.Build.{auto, UpF, ThenFinal, EitherFinal, BothFinal}
 use Rattle.tables.specs.Block.{FinalsAt, withinRule}
 use Rattle.bits.proofs.Truths.{and-T, or-T, true-T, false-no}
@@ -21,7 +20,8 @@ use Rattle.tables.proofs.Labels.{Has, has-none, has-or}
 use Rattle.tables.proofs.Boths.{pair-fst, pair-snd, pair-lt}
 use Rattle.tables.proofs.Language.{size-weight}
 use Rattle.tables.proofs.Places.{final-at}
-use Rattle.tables.proofs.Serving.{weight-pos, final-inside}
+use Rattle.rules.proofs.Weighing.{weight-pos}
+use Rattle.tables.proofs.Serving.{final-inside}
 
 -- a set with k added
 has-insert : (w k q : ℕ) → Has (insert w k) q ↔ (Has w q ⊎ (q ≡ k))

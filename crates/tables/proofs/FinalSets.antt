@@ -15,7 +15,7 @@ use Rattle.tables.specs.Build.{auto, UpF}
 use Rattle.tables.specs.Block.{FinalsAt, anyRule}
 use Rattle.tables.specs.Sets.{Raised, pairFinal}
 use Rattle.bits.proofs.Truths.{false-no}
-use Rattle.tables.proofs.Serving.{weight-pos}
+use Rattle.rules.proofs.Weighing.{weight-pos}
 use Rattle.tables.proofs.Places.{final-at}
 use Rattle.tables.proofs.Ends.{empty-finals, letter-finals, star-finals, both-finals}
 

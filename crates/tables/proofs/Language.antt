@@ -1,15 +1,15 @@
 -- The automaton of a rule accepts what Definition 2 says, for every rule and every sequence; its shape. Assumes nothing.
-use Prim.Native.Nat.{ℕ, _+_, _*_, _<_}
+use Prim.Native.Nat.{ℕ, _+_, _*_}
 use native.Mathlib.Nat.{mul-add, add-mul, mul-comm}
 use native.Mathlib.Omega.{arith}
-use mathlib.Core.Path.{_≡_, refl, sym, ap₂, _∙_}
+use mathlib.Core.Path.{_≡_, refl, ap₂, _∙_}
 use mathlib.Core.Logic.{_⊎_, ⊎-map, _↔_}
 use mathlib.Core.Bool.{Bool}
-use mathlib.Core.List.{List, [], _∷_, _++_, cons≢nil}
+use mathlib.Core.List.{List, [], _∷_, cons≢nil}
 use Rattle.rules.specs.declared.kinds.Pair.the-variants.{Then, Overlap, Either, Within, Both}
 use Rattle.rules.specs.declared.kinds.Repeat.the-variants.{Star, Plus}
 use Rattle.rules.specs.Definition1.{Rule, letter, empty, two, again, yea}
-use Rattle.rules.specs.Definition2.{holds, Sat, OneLetter, Parts, Overlaps, Begins, Repeats, none, more}
+use Rattle.rules.specs.Definition2.{holds, Sat, OneLetter, Begins, Repeats, none, more}
 use Rattle.rules.specs.Weight.{weightOf}
 use Rattle.rules.proofs.Maps.{map-parts, map-overlaps, map-repeats, map-begins}
 use Rattle.tables.specs.Auto.{Auto, Takes}

@@ -12,7 +12,7 @@ use Rattle.rules.specs.declared.Refusal.{Refusal}
 use Rattle.rules.specs.Definition1.{Rule}
 use Rattle.rules.specs.Kinds.{pick}
 use Rattle.rules.specs.Refusals.{number, place}
-use Rattle.rules.specs.Answer.{answer, AcceptedAs, knownOf}
+use Rattle.rules.specs.Answer.{AcceptedAs, knownOf}
 use Rattle.rules.proofs.Accepting.{not-refused, accepted-once}
 use Rattle.rules.proofs.Once.{named, named-told, of-a-rule}
 use Rattle.tables.specs.declared.TableAnswer.{TableAnswer}

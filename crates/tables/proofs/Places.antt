@@ -7,7 +7,7 @@ use mathlib.Core.List.{List}
 use lib.Dec.{T}
 use Rattle.bits.specs.Word.{bit}
 use Rattle.bits.proofs.Laws.{lt-or-ge}
-use Rattle.rules.specs.Definition1.{Rule, empty, two}
+use Rattle.rules.specs.Definition1.{Rule}
 use Rattle.rules.specs.Weight.{weightOf}
 use Rattle.tables.specs.Table.{cell}
 use Rattle.tables.specs.Build.{auto, UpF}

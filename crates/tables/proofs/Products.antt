@@ -5,7 +5,6 @@ use native.Mathlib.Nat.{mul-le-mul-right, mul-comm, suc-mul, mod-lt, div-add-mod
 use mathlib.Core.Path.{_≡_, refl, sym, ap, _∙_}
 use mathlib.Core.Logic.{_⊎_, inl, inr, _↔_}
 use mathlib.Core.List.{List}
-use Rattle.bits.specs.Word.{all}
 use Rattle.rules.specs.declared.kinds.Pair.the-variants.{Both}
 use Rattle.rules.specs.Definition1.{Rule, two}
 use Rattle.rules.specs.Weight.{weightOf}
@@ -16,7 +15,8 @@ use Rattle.tables.specs.Block.{Built}
 use Rattle.tables.proofs.Labels.{Has, has-paired}
 use Rattle.tables.proofs.Boths.{both-label}
 use Rattle.tables.proofs.Language.{good, size-weight}
-use Rattle.tables.proofs.Serving.{weight-pos, step-inside}
+use Rattle.rules.proofs.Weighing.{weight-pos}
+use Rattle.tables.proofs.Serving.{step-inside}
 use Rattle.tables.proofs.Places.{by-cell, by-none, Beside, beside}
 
 pub sum-le-product : (m n : ℕ) → 2 ≤ m → 2 ≤ n → m + n ≤ m * n

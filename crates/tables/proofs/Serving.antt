@@ -2,28 +2,22 @@
 use Prim.Native.Nat.{ℕ, _+_, _*_, _^_, _<_, _≤_}
 use native.Mathlib.Omega.{arith}
 use mathlib.Core.Path.{_≡_, refl}
-use mathlib.Core.Logic.{_⊎_, inl, inr, _↔_}
+use mathlib.Core.Logic.{_⊎_, inl, inr}
 use mathlib.Core.Bool.{_&&_}
 use mathlib.Core.List.{List, [], _∷_}
 use lib.Dec.{T, ltb, ltb→lt, lt→ltb}
-use lib.ListN.{getD}
 use Rattle.bits.specs.Word.{bit}
 use Rattle.bits.proofs.Laws.{ext, bit-none, bit-above, lt-or-ge}
 use Rattle.rules.specs.Definition1.{Rule}
-use Rattle.rules.specs.Definition2.{Sat}
 use Rattle.rules.specs.Weight.{weightOf}
-use Rattle.tables.specs.Auto.{Auto}
+use Rattle.rules.proofs.Weighing.{weight-pos}
 use Rattle.tables.specs.Build.{auto}
-use Rattle.tables.specs.Table.{Table, cell, tableOf, Goes, Accepts}
+use Rattle.tables.specs.Table.{Table, cell, tableOf, Goes}
 use Rattle.tables.specs.IsTable.{IsTable, Words}
 use Rattle.tables.specs.Promise.{Letters, Serves}
 use Rattle.bits.proofs.Truths.{and-T, same-truth, no-false, false-no}
-use Rattle.tables.proofs.Lang.{Acc, Edge, Good}
+use Rattle.tables.proofs.Lang.{Acc, Edge}
 use Rattle.tables.proofs.Language.{good, sound, complete, size-weight}
-
--- a rule weighs at least 1
-pub weight-pos : (r : Rule) → 1 ≤ weightOf r
-weight-pos r = let g = good r .pos in omega (arith, size-weight r)
 
 -- a step of the rule's automaton stays inside the weight and does not enter 0; a final state is inside it
 pub step-inside : (r : Rule) (p x q : ℕ) → auto r .step p x q → Edge (weightOf r) p q
@@ -108,5 +102,6 @@ module _ (r : Rule) (t : List ℕ) (f : ℕ) (is : IsTable r t f) (small : weigh
     small = small;
     sound = λ w h a. sound r w (goes-acc 0 (a .0) w h (a .1) (a .2));
     complete = λ w h s. acc-goes 0 w h (complete r w s);
+    inside = λ p x q s. let h = edge-out t (weightOf r) f p x q s in (h .0, h .1);
     unentered = unentered words;
   }

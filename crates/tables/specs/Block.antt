@@ -11,7 +11,6 @@ use Rattle.rules.specs.Definition1.{Rule, letter, two, again, yea}
 use Rattle.rules.specs.Definition2.{letterCount}
 use Rattle.rules.specs.Weight.{weightOf}
 use Rattle.tables.specs.Table.{cell}
-use Rattle.tables.specs.Auto.{Auto}
 use Rattle.tables.specs.Build.{UpF, auto}
 use Rattle.tables.specs.Cells.{In}
 

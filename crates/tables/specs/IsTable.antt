@@ -8,7 +8,6 @@ use Rattle.bits.specs.Word.{bit}
 use Rattle.rules.specs.Definition1.{Rule}
 use Rattle.rules.specs.Definition2.{letterCount}
 use Rattle.tables.specs.Table.{cell}
-use Rattle.tables.specs.Auto.{Auto}
 use Rattle.tables.specs.Build.{auto}
 
 -- each label has the letters under which the rule's automaton steps, and the set has its final states

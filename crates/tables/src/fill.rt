@@ -2,9 +2,7 @@
 // here: operands are found again in the bytes, and the one copy that `&&` needs is a leaf's.
 ghost use Prim.Native.Nat.{_+_, _*_, _≤_};
 ghost use Rattle.rules.specs.declared.kinds.Pair.the-variants.{Then, Overlap, Either, Within, Both};
-ghost use Rattle.rules.specs.Definition1.{Rule, two};
 ghost use Rattle.rules.specs.Weight.{pairWeight, weightLimit};
-ghost use Rattle.tables.specs.Block.{Built};
 ghost use Rattle.tables.specs.Shapes.{Fits};
 ghost use Rattle.tables.specs.Building.{Ready, Stand, BuiltAt, BuiltAgain, BuiltPair, BuiltLeft, BuiltRight};
 use crate::any::pad;

@@ -1,10 +1,9 @@
 // Sets of final states: an operator's from its operands'. a's states stand first, m of them; b has n.
 ghost use mathlib.Core.Path.{_≡_};
-ghost use mathlib.Core.Bool.{_&&_};
 ghost use Prim.Native.Nat.{_+_, _*_, _/_, _%_, _<_, _≤_};
-ghost use Rattle.bits.specs.Word.{bit, word};
-ghost use Rattle.rules.specs.Definition1.{Rule, two, again};
-ghost use Rattle.rules.specs.declared.kinds.Pair.the-variants.{Then, Overlap, Either, Within, Both};
+ghost use Rattle.bits.specs.Word.{word};
+ghost use Rattle.rules.specs.Definition1.{Rule, two};
+ghost use Rattle.rules.specs.declared.kinds.Pair.the-variants.{Then, Either, Within, Both};
 ghost use Rattle.rules.specs.Weight.{weightOf};
 ghost use Rattle.tables.specs.Block.{FinalsAt};
 ghost use Rattle.tables.specs.Sets.{Raised, pairFinal};

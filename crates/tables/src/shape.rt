@@ -1,5 +1,4 @@
 // The shape of a rule: all that its operator needs to know of it besides its labels.
-ghost use mathlib.Core.Path.{_≡_};
 ghost use Prim.Native.Nat.{ℕ, _<_, _≤_};
 ghost use Rattle.rules.specs.Definition1.{Rule, two, again};
 ghost use Rattle.rules.specs.Weight.{pairWeight, weightLimit};

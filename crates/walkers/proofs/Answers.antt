@@ -1,10 +1,10 @@
 -- What the paths of `step` and `follow` tell. Assumes nothing.
-use Prim.Native.Nat.{ℕ, suc, _+_, _^_, _<_, _≤_}
+use Prim.Native.Nat.{ℕ, _+_, _^_, _<_, _≤_}
 use native.Mathlib.Numerals.{add-one}
 use native.Mathlib.Omega.{arith}
 use mathlib.Core.Path.{_≡_, refl, sym, ap, _∙_}
 use mathlib.Core.Bool.{not}
-use mathlib.Core.List.{List, [], _∷_}
+use mathlib.Core.List.{List}
 use lib.Bits.{bitAnd}
 use lib.Dec.{eqb}
 use lib.ListN.{length, getD, drop}
@@ -14,9 +14,8 @@ use Rattle.rules.specs.Definition2.{letterCount}
 use Rattle.walkers.specs.declared.Walker.{Walker}
 use Rattle.walkers.specs.declared.Refusal.the-variants.{ShortTable, BadLetter}
 use Rattle.walkers.specs.declared.StepAnswer.the-variants.{Moved, Refused}
-use Rattle.walkers.specs.declared.Step.{Step}
 use Rattle.tables.specs.Cells.{tableEntries}
-use Rattle.walkers.specs.Steps.{advanced, meets, Outcome, flag, refusal, Told, told, stepOf}
+use Rattle.walkers.specs.Steps.{advanced, meets, flag, refusal, told, stepOf}
 use Rattle.walkers.specs.Walks.{followFrom, followOf}
 use Rattle.walkers.proofs.Sets.{advanced-lt, meets-test}
 

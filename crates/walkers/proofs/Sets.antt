@@ -1,15 +1,14 @@
 -- Gathering the rows of a set's members, one by one. Assumes nothing.
-use Prim.Native.Nat.{ℕ, _+_, _*_, _^_, _<_}
-use native.Mathlib.Omega.{arith}
+use Prim.Native.Nat.{ℕ, _^_, _<_}
 use native.Mathlib.Decide.{ℕ-discrete}
-use mathlib.Core.Path.{_≡_, refl, sym, ap, ap₂, _∙_}
+use mathlib.Core.Path.{_≡_, refl, sym, ap, _∙_}
 use mathlib.Core.Logic.{_⊎_, inl, inr, _↔_}
 use mathlib.Core.Bool.{Bool, true, false, not, _&&_, _||_}
 use mathlib.Core.List.{List}
 use lib.Bits.{bitAnd, bitOr, or-lt}
 use lib.Dec.{T, eqb}
 use lib.Pow.{pow-pos}
-use borrow.Author.Tests.{eq-eqb, ne-eqb}
+use borrow.Author.Tests.{ne-eqb}
 use Rattle.bits.specs.Word.{bit, word, any, remove}
 use Rattle.bits.proofs.Laws.{bit-or, bit-zero, bit-word, bit-remove, word-lt, word-unique, any-intro, any-elim, any-none, any-meet, and-true, or-false}
 use Rattle.tables.specs.Table.{cell}

@@ -1,30 +1,29 @@
 -- A walker over the table of a rule follows the rule, over every length. Assumes nothing.
-use Prim.Native.Nat.{ℕ, zero, suc, _+_, _*_, _<_, _≤_}
+use Prim.Native.Nat.{ℕ, zero, suc, _+_, _<_, _≤_}
 use native.Mathlib.Omega.{arith}
-use mathlib.Core.Path.{_≡_, refl, sym, ap, _∙_}
-use mathlib.Core.Logic.{_⊎_, inl, inr, _↔_, Iff·trans}
-use mathlib.Core.Bool.{Bool, true, false, _&&_}
+use mathlib.Core.Path.{_≡_, refl, ap, _∙_}
+use mathlib.Core.Logic.{_↔_, Iff·trans}
+use mathlib.Core.Bool.{Bool, true, _&&_}
 use mathlib.Core.List.{List, [], _∷_}
-use lib.Dec.{T, ltb}
+use lib.Dec.{T}
 use lib.ListN.{length}
 use borrow.Author.Tests.{lt-ltb, le-ltb}
-use Rattle.bits.specs.Word.{bit, word, any}
+use Rattle.bits.specs.Word.{bit, any}
 use Rattle.bits.proofs.Laws.{bit-word, bit-suc, bit-zero, bit-low}
 use Rattle.rules.specs.Definition1.{Rule}
 use Rattle.rules.specs.Definition2.{Sat}
 use Rattle.rules.specs.Weight.{weightOf}
 use Rattle.tables.specs.Table.{cell}
-use Rattle.tables.specs.Auto.{Auto}
 use Rattle.tables.specs.Build.{auto}
 use Rattle.tables.specs.IsTable.{IsTable}
 use Rattle.tables.specs.Promise.{Letters}
 use Rattle.bits.proofs.Truths.{and-T, true-T, T-true, same-truth}
-use Rattle.tables.proofs.Lang.{Acc, Edge}
+use Rattle.tables.proofs.Lang.{Acc}
 use Rattle.tables.proofs.Language.{sound, complete}
 use Rattle.tables.proofs.Serving.{step-inside}
 use Rattle.walkers.specs.declared.Walker.{Walker}
 use Rattle.tables.specs.Cells.{tableEntries}
-use Rattle.walkers.specs.Steps.{advanced, meets, startOf, Outcome, flag, refusal, stepOf}
+use Rattle.walkers.specs.Steps.{advanced, meets, startOf, Outcome, flag, stepOf}
 use Rattle.walkers.specs.Walks.{followFrom, followOf, lastSays}
 use Rattle.walkers.proofs.Sets.{any-T}
 

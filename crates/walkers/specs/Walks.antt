@@ -9,7 +9,7 @@ use Rattle.walkers.specs.declared.Walker.{Walker}
 use Rattle.walkers.specs.declared.FollowAnswer.{FollowAnswer}
 use Rattle.walkers.specs.declared.FollowAnswer.the-variants.{Ended, Refused}
 use Rattle.tables.specs.Cells.{tableEntries}
-use Rattle.walkers.specs.Steps.{advanced, meets, startOf, Outcome, flag, refusal, refused, Told, stepOf}
+use Rattle.walkers.specs.Steps.{advanced, meets, startOf, Outcome, flag, refusal, refused, stepOf}
 
 -- the letters from place i on: the first that is no letter is refused, and after the last it is told whether a final is in the set
 unfoldable pub followFrom : List ℕ → ℕ → ℕ → ℕ → List ℕ → Outcome

@@ -7,11 +7,6 @@ use Rattle.judge.specs.Verdict.{ScannedAs}
 use Rattle.judge.proofs.Answering.{read-as, right-refusal, right-many, right-stray, right-judged}
 use Rattle.judge.proofs.judge.Statement.{statement}
 use Rattle.judge.proofs.judge.Tie as tie
-use Rattle.judge.proofs.judge.Reads as reads
-use Rattle.judge.proofs.judge.Lts as lts
-use Rattle.judge.proofs.letters.scan.Reads as scan-reads
-use Rattle.judge.proofs.walk.accepts.Reads as accepts-reads
-use Rattle.rules.proofs.read_rule.Reads as read-rule-reads
 
 read-rule-requires : tie.Need-read-rule-requires
 read-rule-requires c κs = search needs

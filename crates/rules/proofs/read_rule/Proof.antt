@@ -1,5 +1,5 @@
 -- `rules::read_rule` meets its contract. Assumes nothing.
-use Prim.Native.Nat.{_<_, _≤_}
+use Prim.Native.Nat.{_≤_}
 use mathlib.Core.Path.{subst}
 use native.Mathlib.Omega.{arith}
 use borrow.Author.Needs.{needs}
@@ -8,10 +8,6 @@ use Rattle.rules.specs.Walks.{RuleRead}
 use Rattle.rules.proofs.Finish.{told-long, told-bad, told-left, told-light, told-heavy}
 use Rattle.rules.proofs.read_rule.Statement.{statement}
 use Rattle.rules.proofs.read_rule.Tie as tie
-use Rattle.rules.proofs.read_rule.Reads as reads
-use Rattle.rules.proofs.read_rule.Lts as lts
-use Rattle.rules.proofs.ends.rule_end.Reads as rule-end-reads
-use Rattle.rules.proofs.weights.weight_at.Reads as weight-at-reads
 
 returns : tie.Need-returns
 returns c = told-long (c .before .before .args .rule .now) (c .if1 .taken)

@@ -4,7 +4,6 @@ use mathlib.Core.Path.{_≡_, sym, _∙_}
 use mathlib.Core.Logic.{⊎-elim}
 use mathlib.Core.Bool.{Bool}
 use native.Mathlib.Omega.{arith}
-use lib.ListN.{getD}
 use Rattle.bits.specs.Word.{bit, word}
 use Rattle.bits.proofs.Laws.{turn-set, turn-skip, word-none}
 use Rattle.tables.specs.Table.{cell}

@@ -3,9 +3,6 @@ use Rattle.judge.specs.Parts.{yes}
 use borrow.Author.Needs.{needs}
 use Rattle.judge.proofs.cuts.accepted.Statement.{statement}
 use Rattle.judge.proofs.cuts.accepted.Tie as tie
-use Rattle.judge.proofs.cuts.accepted.Reads as reads
-use Rattle.judge.proofs.cuts.accepted.Lts as lts
-use Rattle.bits.proofs.has.Reads as has-reads
 
 mul-has : tie.Need-mul-has
 mul-has c = search needs

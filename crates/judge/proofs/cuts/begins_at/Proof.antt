@@ -1,7 +1,7 @@
 -- `cuts::begins_at` meets its contract: where no answer came early, no cut that was tried does. Assumes nothing.
 use mathlib.Core.Path.{_≡_}
 use mathlib.Core.Bool.{true}
-use Prim.Native.Nat.{_+_, _-_, _≤_}
+use Prim.Native.Nat.{_+_, _-_}
 use native.Mathlib.Omega.{arith}
 use borrow.Author.Needs.{needs}
 use Rattle.judge.proofs.Sayings.{say-yes, say-no, on, off}
@@ -9,9 +9,6 @@ use Rattle.judge.proofs.Tries.{Tried, tried-none, tried-one}
 use Rattle.judge.specs.Parts.{yes}
 use Rattle.judge.proofs.cuts.begins_at.Statement.{statement}
 use Rattle.judge.proofs.cuts.begins_at.Tie as tie
-use Rattle.judge.proofs.cuts.begins_at.Reads as reads
-use Rattle.judge.proofs.cuts.begins_at.Lts as lts
-use Rattle.judge.proofs.cuts.accepted.Reads as accepted-reads
 
 abbrev Inv-loop : tie.InvT-loop
 Inv-loop a i e end₀ end = Tried (λ m. yes a i m ≡ true) i end

@@ -2,10 +2,6 @@
 use borrow.Author.Needs.{needs}
 use Rattle.judge.proofs.cuts.cell.Statement.{statement}
 use Rattle.judge.proofs.cuts.cell.Tie as tie
-use Rattle.judge.proofs.cuts.cell.Reads as reads
-use Rattle.judge.proofs.cuts.cell.Lts as lts
-use Rattle.judge.proofs.cuts.pair_at.Reads as pair-at-reads
-use Rattle.judge.proofs.cuts.star_at.Reads as star-at-reads
 
 enum-known-op : tie.Need-enum-known-op
 enum-known-op c = search needs

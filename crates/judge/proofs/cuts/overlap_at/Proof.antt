@@ -1,15 +1,12 @@
 -- `cuts::overlap_at` meets its contract: where no answer came early, no cut that was tried does. Assumes nothing.
-use mathlib.Core.Logic.{⊎-elim, inl, inr}
-use Prim.Native.Nat.{_+_, _-_, _≤_}
+use mathlib.Core.Logic.{⊎-elim}
+use Prim.Native.Nat.{_+_, _-_}
 use native.Mathlib.Omega.{arith}
 use borrow.Author.Needs.{needs}
 use Rattle.judge.proofs.Sayings.{say-yes, say-no, on, off}
 use Rattle.judge.proofs.Tries.{Tried, tried-none, tried-one, Split}
 use Rattle.judge.proofs.cuts.overlap_at.Statement.{statement}
 use Rattle.judge.proofs.cuts.overlap_at.Tie as tie
-use Rattle.judge.proofs.cuts.overlap_at.Reads as reads
-use Rattle.judge.proofs.cuts.overlap_at.Lts as lts
-use Rattle.judge.proofs.cuts.accepted.Reads as accepted-reads
 
 abbrev Inv-loop : tie.InvT-loop
 Inv-loop a b i e shared₀ shared = Tried (λ m. Split a b i e (m + 1) m) i shared

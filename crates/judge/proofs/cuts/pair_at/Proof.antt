@@ -4,12 +4,6 @@ use borrow.Author.Needs.{needs}
 use Rattle.judge.proofs.Sayings.{said-yes, said-no, says-map, says-test, on, off}
 use Rattle.judge.proofs.cuts.pair_at.Statement.{statement}
 use Rattle.judge.proofs.cuts.pair_at.Tie as tie
-use Rattle.judge.proofs.cuts.pair_at.Reads as reads
-use Rattle.judge.proofs.cuts.pair_at.Lts as lts
-use Rattle.judge.proofs.cuts.accepted.Reads as accepted-reads
-use Rattle.judge.proofs.cuts.overlap_at.Reads as overlap-at-reads
-use Rattle.judge.proofs.cuts.then_at.Reads as then-at-reads
-use Rattle.judge.proofs.cuts.within_at.Reads as within-at-reads
 
 enum-told : tie.Need-enum-told
 enum-told c = search needs

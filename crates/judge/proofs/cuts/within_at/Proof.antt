@@ -3,10 +3,6 @@ use borrow.Author.Needs.{needs}
 use Rattle.judge.proofs.Sayings.{said-no, says-map, on, off}
 use Rattle.judge.proofs.cuts.within_at.Statement.{statement}
 use Rattle.judge.proofs.cuts.within_at.Tie as tie
-use Rattle.judge.proofs.cuts.within_at.Reads as reads
-use Rattle.judge.proofs.cuts.within_at.Lts as lts
-use Rattle.judge.proofs.cuts.accepted.Reads as accepted-reads
-use Rattle.judge.proofs.cuts.begins_at.Reads as begins-at-reads
 
 accepted-requires : tie.Need-accepted-requires
 accepted-requires c κs = search needs

@@ -7,8 +7,6 @@ use Rattle.judge.specs.Verdict.{LettersTo}
 use Rattle.judge.proofs.Strays.{letters-none, letters-one, letters-all}
 use Rattle.judge.proofs.letters.scan.Statement.{statement}
 use Rattle.judge.proofs.letters.scan.Tie as tie
-use Rattle.judge.proofs.letters.scan.Reads as reads
-use Rattle.judge.proofs.letters.scan.Lts as lts
 
 abbrev Inv-loop : tie.InvT-loop
 Inv-loop letters i₀ i = (i ≤ length letters) × LettersTo letters i

@@ -1,15 +1,12 @@
 -- `parts::empty_parts` meets its contract: the rows passed have their one bit. Assumes nothing.
 use mathlib.Core.Path.{_≡_, refl, sym}
-use Prim.Native.Nat.{_-_, _≤_}
+use Prim.Native.Nat.{_-_}
 use native.Mathlib.Omega.{arith}
 use Rattle.judge.specs.Parts.{side}
 use Rattle.judge.proofs.Rows.{RowsTo, rows-none, rows-one, rows-done, one-bit}
 use borrow.Author.Needs.{needs}
 use Rattle.judge.proofs.parts.empty_parts.Statement.{statement}
 use Rattle.judge.proofs.parts.empty_parts.Tie as tie
-use Rattle.judge.proofs.parts.empty_parts.Reads as reads
-use Rattle.judge.proofs.parts.empty_parts.Lts as lts
-use Rattle.bits.proofs.with.Reads as with-reads
 
 abbrev Inv-loop : tie.InvT-loop
 Inv-loop out₀ i₀ out i = RowsTo _≡_ out i

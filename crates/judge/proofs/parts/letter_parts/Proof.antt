@@ -1,6 +1,6 @@
 -- `parts::letter_parts` meets its contract: the rows passed say what they are to say. Assumes nothing.
-use mathlib.Core.Path.{_≡_, refl}
-use Prim.Native.Nat.{ℕ, _-_, _≤_}
+use mathlib.Core.Path.{refl}
+use Prim.Native.Nat.{ℕ, _-_}
 use native.Mathlib.Omega.{arith}
 use borrow.Author.Needs.{needs}
 use Rattle.rules.specs.Definition1.{Formula}
@@ -10,9 +10,6 @@ use Rattle.judge.specs.Cut.{LetterAt}
 use Rattle.judge.proofs.Rows.{RowsTo, rows-none, rows-one, rows-done}
 use Rattle.judge.proofs.parts.letter_parts.Statement.{statement}
 use Rattle.judge.proofs.parts.letter_parts.Tie as tie
-use Rattle.judge.proofs.parts.letter_parts.Reads as reads
-use Rattle.judge.proofs.parts.letter_parts.Lts as lts
-use Rattle.judge.proofs.parts.letter_row.Reads as letter-row-reads
 
 abbrev Inv-loop : tie.InvT-loop
 Inv-loop rule at letters out₀ i₀ out i = (f : Formula) (e : ℕ) → FormulaAt rule at f e → RowsTo (LetterAt f letters) out i

@@ -1,15 +1,11 @@
 -- `parts::letter_row` meets its contract. Assumes nothing.
-use mathlib.Core.Path.{refl, sym, _∙_}
+use mathlib.Core.Path.{refl}
 use native.Mathlib.Omega.{arith}
 use borrow.Author.Needs.{needs}
 use Rattle.judge.proofs.Sayings.{on, off}
 use Rattle.judge.proofs.Rows.{no-bit, one-bit}
 use Rattle.judge.proofs.parts.letter_row.Statement.{statement}
 use Rattle.judge.proofs.parts.letter_row.Tie as tie
-use Rattle.judge.proofs.parts.letter_row.Reads as reads
-use Rattle.judge.proofs.parts.letter_row.Lts as lts
-use Rattle.bits.proofs.with.Reads as with-reads
-use Rattle.rules.proofs.formulas.holds_at.Reads as holds-at-reads
 
 returns : tie.Need-returns
 returns c = λ f e d. no-bit (λ k t. omega (arith, t .inside))

@@ -1,6 +1,6 @@
 -- `parts::pair_parts` meets its contract: the rows passed say what they are to say. Assumes nothing.
 use mathlib.Core.Path.{refl}
-use Prim.Native.Nat.{_-_, _≤_}
+use Prim.Native.Nat.{_-_}
 use native.Mathlib.Omega.{arith}
 use borrow.Author.Needs.{needs}
 use Rattle.judge.specs.Parts.{side}
@@ -8,9 +8,6 @@ use Rattle.judge.specs.Cut.{PairAt}
 use Rattle.judge.proofs.Rows.{RowsTo, rows-none, rows-one, rows-done}
 use Rattle.judge.proofs.parts.pair_parts.Statement.{statement}
 use Rattle.judge.proofs.parts.pair_parts.Tie as tie
-use Rattle.judge.proofs.parts.pair_parts.Reads as reads
-use Rattle.judge.proofs.parts.pair_parts.Lts as lts
-use Rattle.judge.proofs.parts.row.Reads as row-reads
 
 abbrev Inv-loop : tie.InvT-loop
 Inv-loop p a b out₀ i₀ out i = RowsTo (PairAt p a b) out i

@@ -1,7 +1,7 @@
 -- `parts::row` meets its contract: the bits passed say what their cells say. Assumes nothing.
 use mathlib.Core.Path.{_∙_}
 use mathlib.Core.Logic.{⊎-elim}
-use Prim.Native.Nat.{_-_, _≤_}
+use Prim.Native.Nat.{_-_}
 use native.Mathlib.Omega.{arith}
 use borrow.Author.Needs.{needs}
 use Rattle.judge.specs.Parts.{side}
@@ -9,10 +9,6 @@ use Rattle.judge.specs.Cut.{CellAt}
 use Rattle.judge.proofs.Rows.{RowTo, row-none, row-yes, row-no, row-done}
 use Rattle.judge.proofs.parts.row.Statement.{statement}
 use Rattle.judge.proofs.parts.row.Tie as tie
-use Rattle.judge.proofs.parts.row.Reads as reads
-use Rattle.judge.proofs.parts.row.Lts as lts
-use Rattle.bits.proofs.with.Reads as with-reads
-use Rattle.judge.proofs.cuts.cell.Reads as cell-reads
 
 abbrev Inv-loop : tie.InvT-loop
 Inv-loop op a b i found₀ e₀ found e = RowTo (CellAt op a b i) found e

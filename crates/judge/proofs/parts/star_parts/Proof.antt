@@ -7,9 +7,6 @@ use Rattle.judge.specs.Parts.{side}
 use Rattle.judge.proofs.Rows.{StarsFrom, stars-none, stars-one, stars-done}
 use Rattle.judge.proofs.parts.star_parts.Statement.{statement}
 use Rattle.judge.proofs.parts.star_parts.Tie as tie
-use Rattle.judge.proofs.parts.star_parts.Reads as reads
-use Rattle.judge.proofs.parts.star_parts.Lts as lts
-use Rattle.judge.proofs.parts.row.Reads as row-reads
 
 abbrev Inv-loop : tie.InvT-loop
 Inv-loop a out₀ i₀ out i = (i ≤ side) × StarsFrom a out i

@@ -9,9 +9,9 @@ use borrow.Fn.Kinds.{In}
 use borrow.Fn.PlainCycle.{Measures, is, falls, and}
 use lib.ListN.{length, getD}
 use Rattle.rules.specs.declared.kinds.RuleKind.the-variants.{Letter, Empty, Two, Again}
-use Rattle.rules.specs.declared.kinds.Kind.the-variants.{OfRule, OfFormula, Unknown}
+use Rattle.rules.specs.declared.kinds.Kind.the-variants.{OfRule}
 use Rattle.rules.specs.Kinds.{kindOf}
-use Rattle.rules.proofs.Walks.{rule-here, not-unknown, not-formula, good-letter, good-again, good-first, good-second}
+use Rattle.rules.proofs.Walks.{rule-here, good-letter, good-again, good-first, good-second}
 use Rattle.judge.proofs.Operands.{is-rule, at-letter, at-empty, at-again, at-two, repeated, repeated-once}
 use Rattle.judge.proofs.walk.judge_at.Reads as judge-at
 use Rattle.judge.proofs.walk.judge_at.Kinds as judge-at-kinds

@@ -3,10 +3,6 @@ use borrow.Author.Needs.{needs}
 use Rattle.judge.proofs.Meaning.{judged-whole}
 use Rattle.judge.proofs.walk.accepts.Statement.{statement}
 use Rattle.judge.proofs.walk.accepts.Tie as tie
-use Rattle.judge.proofs.walk.accepts.Reads as reads
-use Rattle.judge.proofs.walk.accepts.Lts as lts
-use Rattle.judge.proofs.cuts.accepted.Reads as accepted-reads
-use Rattle.judge.proofs.walk.judge_at.Reads as judge-at-reads
 
 judge-at-requires : tie.Need-judge-at-requires
 judge-at-requires c κs = search needs

@@ -1,6 +1,6 @@
 -- The proof of the cycle of calls {rule_end}. The measure is what is left of the slice from `at` on. Assumes nothing.
 use Prim.Native.Nat.{ℕ, _+_, _<_, _-_}
-use mathlib.Core.Path.{_≡_, sym, ap, subst, _∙_}
+use mathlib.Core.Path.{subst}
 use native.Mathlib.Omega.{arith}
 use lib.ListN.{length}
 use borrow.Author.Needs.{needs}

@@ -6,9 +6,6 @@ use borrow.Author.Needs.{needs}
 use Rattle.rules.proofs.Unique.{formula-read}
 use Rattle.rules.proofs.ends.formula_past.Statement.{statement}
 use Rattle.rules.proofs.ends.formula_past.Tie as tie
-use Rattle.rules.proofs.ends.formula_past.Reads as reads
-use Rattle.rules.proofs.ends.formula_past.Lts as lts
-use Rattle.rules.proofs.ends.formula_end.Reads as formula-end-reads
 
 formula-end-requires : tie.Need-formula-end-requires
 formula-end-requires c κs = search needs

@@ -6,9 +6,6 @@ use borrow.Author.Needs.{needs}
 use Rattle.rules.proofs.Unique.{rule-read}
 use Rattle.rules.proofs.ends.rule_past.Statement.{statement}
 use Rattle.rules.proofs.ends.rule_past.Tie as tie
-use Rattle.rules.proofs.ends.rule_past.Reads as reads
-use Rattle.rules.proofs.ends.rule_past.Lts as lts
-use Rattle.rules.proofs.ends.rule_end.Reads as rule-end-reads
 
 rule-end-requires : tie.Need-rule-end-requires
 rule-end-requires c κs = search needs

@@ -1,6 +1,6 @@
 -- `rules::formulas::label_at` meets its contract. The invariant: the label is that of the letters tried. Assumes nothing.
 use Prim.Native.Nat.{_≤_, _-_}
-use mathlib.Core.Path.{_≡_, subst}
+use mathlib.Core.Path.{_≡_}
 use native.Mathlib.Omega.{arith}
 use borrow.Author.Needs.{needs}
 use Rattle.bits.proofs.Laws.{word-none}

@@ -1,5 +1,5 @@
 -- `rules::formulas::try_letter` meets its contract: the letter is added exactly where the formula holds in it. Assumes nothing.
-use Prim.Native.Nat.{ℕ, _+_}
+use Prim.Native.Nat.{_+_}
 use mathlib.Core.Path.{subst, sym}
 use borrow.Author.Needs.{needs}
 use Rattle.rules.specs.Walks.{LabelUpTo}

@@ -1,13 +1,12 @@
 -- The proof of the cycle of calls {weight_at}. The measure is what is left of the slice from `at` on. Assumes nothing.
-use Prim.Native.Nat.{ℕ, _+_, _<_, _-_, min}
-use mathlib.Core.Path.{_≡_, sym, ap, subst, _∙_}
+use Prim.Native.Nat.{ℕ, _+_, _<_, _-_}
+use mathlib.Core.Path.{_≡_}
 use native.Mathlib.Omega.{arith}
 use lib.ListN.{length, getD}
 use borrow.Author.Needs.{needs}
 use Rattle.rules.specs.declared.kinds.RuleKind.the-variants.{Letter, Empty, Two, Again}
 use Rattle.rules.specs.declared.kinds.Kind.the-variants.{OfFormula, OfRule, Unknown}
 use Rattle.rules.specs.Kinds.{kindOf}
-use Rattle.rules.specs.Weight.{weightOf}
 use Rattle.rules.proofs.Walks.{rule-here, not-unknown, not-formula, good-letter, good-again, good-first, good-second}
 use Rattle.rules.proofs.Weighing.{w-letter, w-empty, w-again, w-two, capped-small}
 use borrow.Fn.Kinds.{In}

@@ -1,14 +1,10 @@
 -- `rules::weight_of_pair` meets its contract. Assumes nothing.
 use Prim.Native.Nat.{ℕ, _*_, _≤_}
-use mathlib.Core.Path.{_≡_, sym}
 use native.Mathlib.Nat.{mul-le-mul}
 use native.Mathlib.Omega.{arith}
 use borrow.Author.Needs.{needs}
 use Rattle.rules.proofs.weights.weight_of_pair.Statement.{statement}
 use Rattle.rules.proofs.weights.weight_of_pair.Tie as tie
-use Rattle.rules.proofs.weights.weight_of_pair.Reads as reads
-use Rattle.rules.proofs.weights.weight_of_pair.Lts as lts
-use Rattle.rules.proofs.weights.capped.Reads as capped-reads
 
 product : (m n : ℕ) → m ≤ 65 → n ≤ 65 → m * n ≤ 4225
 product m n p q = mul-le-mul p q

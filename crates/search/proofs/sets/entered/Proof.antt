@@ -12,7 +12,6 @@ use Rattle.search.proofs.Labels.{entered-end}
 use borrow.Author.Needs.{needs}
 use Rattle.search.proofs.sets.entered.Statement.{statement}
 use Rattle.search.proofs.sets.entered.Tie as tie
-use Rattle.search.proofs.sets.entered.Reads as reads
 
 abbrev Inv-loop : tie.InvT-loop
 Inv-loop table weight q x set₀ p₀ set p = (p ≤ weight) × Members set (Under (λ p. T (bit (cell table q p) x)) p)

@@ -1,15 +1,10 @@
 -- `vectors::agree::all_cases` is safe and ends. Assumes nothing.
 use Prim.Native.Nat.{_≤_, _-_}
 use mathlib.Core.Path.{_≡_}
-use native.Mathlib.Omega.{arith}
 use lib.ListN.{length}
 use borrow.Author.Needs.{needs}
 use Rattle.vectors.proofs.agree.all_cases.Statement.{statement}
 use Rattle.vectors.proofs.agree.all_cases.Tie as tie
-use Rattle.vectors.proofs.agree.all_cases.Reads as reads
-use Rattle.vectors.proofs.agree.all_cases.Lts as lts
-use Rattle.vectors.proofs.agree.one_case.Reads as one-case-reads
-use Rattle.vectors.proofs.agree.start.Reads as start-reads
 
 abbrev Inv-loop : tie.InvT-loop
 Inv-loop space₀ letters₀ table₀ p₀ counter₀ space letters table p counter = (counter ≤ 600) × (length space ≡ length space₀) × (length letters ≡ length letters₀) × (length table ≡ length table₀)

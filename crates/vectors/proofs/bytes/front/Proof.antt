@@ -5,8 +5,6 @@ use lib.ListN.{length, length-take}
 use borrow.Author.Needs.{needs}
 use Rattle.vectors.proofs.bytes.front.Statement.{statement}
 use Rattle.vectors.proofs.bytes.front.Tie as tie
-use Rattle.vectors.proofs.bytes.front.Reads as reads
-use Rattle.vectors.proofs.bytes.front.Lts as lts
 
 slice-aggregate-result : tie.Need-slice-aggregate-result
 slice-aggregate-result c = let h : c .before .before .args .n ≤ length (c .before .before .args .space .now) = omega arith in simp length-take (omega arith)

@@ -5,9 +5,6 @@ use lib.ListN.{length}
 use borrow.Author.Needs.{needs}
 use Rattle.vectors.proofs.bytes.put.Statement.{statement}
 use Rattle.vectors.proofs.bytes.put.Tie as tie
-use Rattle.vectors.proofs.bytes.put.Reads as reads
-use Rattle.vectors.proofs.bytes.put.Lts as lts
-use Rattle.vectors.proofs.bytes.put_byte.Reads as put-byte-reads
 
 abbrev Inv-loop : tie.InvT-loop
 Inv-loop out₀ at part end₀ i₀ i-end out end i = (i ≤ i-end) × (length out ≡ length out₀)

@@ -5,9 +5,6 @@ use lib.ListN.{length}
 use borrow.Author.Needs.{needs}
 use Rattle.vectors.proofs.bytes.put_many.Statement.{statement}
 use Rattle.vectors.proofs.bytes.put_many.Tie as tie
-use Rattle.vectors.proofs.bytes.put_many.Reads as reads
-use Rattle.vectors.proofs.bytes.put_many.Lts as lts
-use Rattle.vectors.proofs.bytes.put.Reads as put-reads
 
 abbrev Inv-loop : tie.InvT-loop
 Inv-loop out₀ at part n end₀ counter₀ out end counter = (counter ≤ n) × (length out ≡ length out₀)

@@ -1,16 +1,10 @@
 -- `vectors::draws::draw_letters` is safe and ends. Assumes nothing.
 use Prim.Native.Nat.{_≤_, _-_}
 use mathlib.Core.Path.{_≡_}
-use native.Mathlib.Omega.{arith}
 use lib.ListN.{length}
 use borrow.Author.Needs.{needs}
 use Rattle.vectors.proofs.draws.draw_letters.Statement.{statement}
 use Rattle.vectors.proofs.draws.draw_letters.Tie as tie
-use Rattle.vectors.proofs.draws.draw_letters.Reads as reads
-use Rattle.vectors.proofs.draws.draw_letters.Lts as lts
-use Rattle.vectors.proofs.draws.draw_letter.Reads as draw-letter-reads
-use Rattle.vectors.proofs.draws.next.Reads as next-reads
-use Rattle.vectors.proofs.draws.upper.Reads as upper-reads
 
 abbrev Inv-loop : tie.InvT-loop
 Inv-loop space₀ seed first n d₀ counter₀ space d counter = (counter ≤ n) × (length space ≡ length space₀)

@@ -1,14 +1,10 @@
 -- `vectors::draws::draw_rule` is safe and ends. Assumes nothing.
 use Prim.Native.Nat.{_≤_, _-_}
 use mathlib.Core.Path.{_≡_}
-use native.Mathlib.Omega.{arith}
 use lib.ListN.{length}
 use borrow.Author.Needs.{needs}
 use Rattle.vectors.proofs.draws.draw_rule.Statement.{statement}
 use Rattle.vectors.proofs.draws.draw_rule.Tie as tie
-use Rattle.vectors.proofs.draws.draw_rule.Reads as reads
-use Rattle.vectors.proofs.draws.draw_rule.Lts as lts
-use Rattle.vectors.proofs.draws.grow.Reads as grow-reads
 
 abbrev Inv-loop : tie.InvT-loop
 Inv-loop space₀ seed g₀ counter₀ space g counter = (counter ≤ 13) × (length space ≡ length space₀)

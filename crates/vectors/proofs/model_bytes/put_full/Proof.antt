@@ -1,14 +1,10 @@
 -- `vectors::model_bytes::put_full` is safe and ends. Assumes nothing.
 use Prim.Native.Nat.{_≤_, _-_}
 use mathlib.Core.Path.{_≡_}
-use native.Mathlib.Omega.{arith}
 use lib.ListN.{length}
 use borrow.Author.Needs.{needs}
 use Rattle.vectors.proofs.model_bytes.put_full.Statement.{statement}
 use Rattle.vectors.proofs.model_bytes.put_full.Tie as tie
-use Rattle.vectors.proofs.model_bytes.put_full.Reads as reads
-use Rattle.vectors.proofs.model_bytes.put_full.Lts as lts
-use Rattle.vectors.proofs.model_bytes.put_state.Reads as put-state-reads
 
 abbrev Inv-loop : tie.InvT-loop
 Inv-loop out₀ end₀ k₀ out end k = (k ≤ 64) × (length out ≡ length out₀)

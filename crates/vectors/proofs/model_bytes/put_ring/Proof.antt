@@ -1,14 +1,10 @@
 -- `vectors::model_bytes::put_ring` is safe and ends. Assumes nothing.
 use Prim.Native.Nat.{_≤_, _-_}
 use mathlib.Core.Path.{_≡_}
-use native.Mathlib.Omega.{arith}
 use lib.ListN.{length}
 use borrow.Author.Needs.{needs}
 use Rattle.vectors.proofs.model_bytes.put_ring.Statement.{statement}
 use Rattle.vectors.proofs.model_bytes.put_ring.Tie as tie
-use Rattle.vectors.proofs.model_bytes.put_ring.Reads as reads
-use Rattle.vectors.proofs.model_bytes.put_ring.Lts as lts
-use Rattle.vectors.proofs.model_bytes.put_link.Reads as put-link-reads
 
 abbrev Inv-loop : tie.InvT-loop
 Inv-loop out₀ end₀ k₀ out end k = (k ≤ 64) × (length out ≡ length out₀)

@@ -1,14 +1,10 @@
 -- `vectors::model_bytes::put_word` is safe and ends. Assumes nothing.
 use Prim.Native.Nat.{_≤_, _-_}
 use mathlib.Core.Path.{_≡_}
-use native.Mathlib.Omega.{arith}
 use lib.ListN.{length}
 use borrow.Author.Needs.{needs}
 use Rattle.vectors.proofs.model_bytes.put_word.Statement.{statement}
 use Rattle.vectors.proofs.model_bytes.put_word.Tie as tie
-use Rattle.vectors.proofs.model_bytes.put_word.Reads as reads
-use Rattle.vectors.proofs.model_bytes.put_word.Lts as lts
-use Rattle.vectors.proofs.bytes.put_byte.Reads as put-byte-reads
 
 abbrev Inv-loop : tie.InvT-loop
 Inv-loop out₀ at word end₀ rest₀ counter₀ out end rest counter = (counter ≤ 8) × (length out ≡ length out₀)

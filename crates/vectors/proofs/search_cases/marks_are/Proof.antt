@@ -1,13 +1,8 @@
 -- `vectors::search_cases::marks_are` is safe and ends. Assumes nothing.
 use Prim.Native.Nat.{_≤_, _-_}
-use mathlib.Core.Path.{_≡_}
-use native.Mathlib.Omega.{arith}
-use lib.ListN.{length}
 use borrow.Author.Needs.{needs}
 use Rattle.vectors.proofs.search_cases.marks_are.Statement.{statement}
 use Rattle.vectors.proofs.search_cases.marks_are.Tie as tie
-use Rattle.vectors.proofs.search_cases.marks_are.Reads as reads
-use Rattle.vectors.proofs.search_cases.marks_are.Lts as lts
 
 abbrev Inv-loop : tie.InvT-loop
 Inv-loop s a b v i₀ i = a ≤ i

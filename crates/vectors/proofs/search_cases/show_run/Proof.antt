@@ -1,15 +1,8 @@
 -- `vectors::search_cases::show_run` is safe and ends. Assumes nothing.
 use Prim.Native.Nat.{_≤_, _-_}
-use mathlib.Core.Path.{_≡_}
-use native.Mathlib.Omega.{arith}
-use lib.ListN.{length}
 use borrow.Author.Needs.{needs}
 use Rattle.vectors.proofs.search_cases.show_run.Statement.{statement}
 use Rattle.vectors.proofs.search_cases.show_run.Tie as tie
-use Rattle.vectors.proofs.search_cases.show_run.Reads as reads
-use Rattle.vectors.proofs.search_cases.show_run.Lts as lts
-use Rattle.vectors.proofs.show.byte.Reads as byte-reads
-use Rattle.vectors.proofs.show.text.Reads as text-reads
 
 abbrev Inv-loop : tie.InvT-loop
 Inv-loop run n i₀ t4 i = i ≤ n

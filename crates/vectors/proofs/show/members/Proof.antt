@@ -1,14 +1,8 @@
 -- `vectors::show::members` is safe and ends. Assumes nothing.
 use Prim.Native.Nat.{_≤_, _-_}
-use mathlib.Core.Path.{_≡_}
-use native.Mathlib.Omega.{arith}
-use lib.ListN.{length}
 use borrow.Author.Needs.{needs}
 use Rattle.vectors.proofs.show.members.Statement.{statement}
 use Rattle.vectors.proofs.show.members.Tie as tie
-use Rattle.vectors.proofs.show.members.Reads as reads
-use Rattle.vectors.proofs.show.members.Lts as lts
-use Rattle.vectors.proofs.show.member.Reads as member-reads
 
 abbrev Inv-loop : tie.InvT-loop
 Inv-loop set k₀ k = k ≤ 64

@@ -1,14 +1,8 @@
 -- `vectors::table_cases::show_labels` is safe and ends. Assumes nothing.
 use Prim.Native.Nat.{_≤_, _-_}
-use mathlib.Core.Path.{_≡_}
-use native.Mathlib.Omega.{arith}
-use lib.ListN.{length}
 use borrow.Author.Needs.{needs}
 use Rattle.vectors.proofs.table_cases.show_labels.Statement.{statement}
 use Rattle.vectors.proofs.table_cases.show_labels.Tie as tie
-use Rattle.vectors.proofs.table_cases.show_labels.Reads as reads
-use Rattle.vectors.proofs.table_cases.show_labels.Lts as lts
-use Rattle.vectors.proofs.table_cases.show_row.Reads as show-row-reads
 
 abbrev Inv-loop : tie.InvT-loop
 Inv-loop table p₀ p = p ≤ 64

@@ -1,14 +1,8 @@
 -- `vectors::table_cases::show_row` is safe and ends. Assumes nothing.
 use Prim.Native.Nat.{_≤_, _-_}
-use mathlib.Core.Path.{_≡_}
-use native.Mathlib.Omega.{arith}
-use lib.ListN.{length}
 use borrow.Author.Needs.{needs}
 use Rattle.vectors.proofs.table_cases.show_row.Statement.{statement}
 use Rattle.vectors.proofs.table_cases.show_row.Tie as tie
-use Rattle.vectors.proofs.table_cases.show_row.Reads as reads
-use Rattle.vectors.proofs.table_cases.show_row.Lts as lts
-use Rattle.vectors.proofs.table_cases.show_label.Reads as show-label-reads
 
 abbrev Inv-loop : tie.InvT-loop
 Inv-loop table p q₀ q = q ≤ 64

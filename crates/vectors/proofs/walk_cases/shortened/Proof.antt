@@ -5,8 +5,6 @@ use lib.ListN.{length, length-take}
 use borrow.Author.Needs.{needs}
 use Rattle.vectors.proofs.walk_cases.shortened.Statement.{statement}
 use Rattle.vectors.proofs.walk_cases.shortened.Tie as tie
-use Rattle.vectors.proofs.walk_cases.shortened.Reads as reads
-use Rattle.vectors.proofs.walk_cases.shortened.Lts as lts
 
 slice-aggregate-result : tie.Need-slice-aggregate-result
 slice-aggregate-result c = let h : 4095 ≤ length (c .before .before .args .table .now) = omega arith in simp length-take (omega arith)
