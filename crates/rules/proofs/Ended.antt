@@ -1,4 +1,4 @@
--- Refusal 2 has the length of the bytes for its place, as 01's table says. Assumes nothing.
+-- Refusal 2 has the length of the bytes for its place. Assumes nothing.
 use Prim.Native.Nat.{ℕ, _+_}
 use native.Mathlib.Omega.{arith}
 use mathlib.Core.Path.{_≡_}

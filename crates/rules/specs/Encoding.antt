@@ -1,4 +1,4 @@
--- The bytes of a rule, 01 "The house form". Assumes nothing: these are definitions.
+-- The house form: the bytes that spell a rule. Assumes nothing: these are definitions.
 use Prim.Native.Nat.{ℕ, _≤_}
 use mathlib.Core.List.{List, [], _∷_, _++_}
 use Rattle.rules.specs.declared.kinds.Junction.{Junction}

@@ -1,4 +1,4 @@
--- 01's table of kinds, "The house form". Assumes nothing: these are definitions.
+-- The house form: the table of kinds. Assumes nothing: these are definitions.
 use Prim.Native.Nat.{ℕ}
 use mathlib.Core.Bool.{Bool, true, false}
 use mathlib.Core.List.{List, [], _∷_}

@@ -1,4 +1,4 @@
--- How 01 reads a rule: one pass over the bytes with a list of what is still needed. The first fault in reading order is the answer.
+-- How a rule is read: one pass over the bytes with a list of what is still needed. The first fault in reading order is the answer.
 -- Assumes nothing: these are definitions.
 use Prim.Native.Nat.{ℕ, _+_}
 use mathlib.Core.List.{List, [], _∷_}
