@@ -177,9 +177,8 @@ fn search(name: &[u8], rule: &[u8], model: &[u8]) {
     show::text(name);
     show::text(b": ");
     answered(answer, &run);
-    if !left_as_promised(answer, &table, &marks, &useful, &run) {
-        show::text(b"  a lent slice is not as promised\n");
-    }
+    show::text(b"  lent slices as promised: ");
+    show::yes_or_no(left_as_promised(answer, &table, &marks, &useful, &run));
 }
 
 fn small() {
