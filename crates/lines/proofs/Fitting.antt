@@ -1,0 +1,87 @@
+-- The text of an answer has room: how long it can get. Assumes nothing.
+use Prim.Native.Nat.{ℕ, _+_, _*_, _^_, _≤_, _<_}
+use native.Mathlib.Omega.{arith}
+use mathlib.Core.Path.{_≡_, refl, sym, ap, subst, _∙_}
+use mathlib.Core.List.{List, _++_}
+use lib.ListN.{length, take, length-append, length-take}
+use Rattle.rules.specs.declared.Known.{Known}
+use Rattle.rules.specs.Weight.{weightOf}
+use Rattle.tables.specs.Table.{tableOf}
+use Rattle.models.specs.Reading.{Outcome, good, fault, records, linked, thenLinked}
+use Rattle.models.specs.Model.{Model}
+use Rattle.models.specs.Stored.{modelOf}
+use Rattle.models.specs.Answer as models
+use Rattle.models.proofs.Passes.{counts, linked-good}
+use Rattle.search.specs.declared.inner.Searched.the-variants.{Found, Nothing}
+use Rattle.search.specs.declared.SearchAnswer.{SearchAnswer}
+use Rattle.search.specs.declared.SearchAnswer.the-variants.{Answered, RuleRefused, ModelRefused, ShortSlice}
+use Rattle.search.specs.Right.{Answer, found, Right}
+use Rattle.search.specs.Answer.{Slices, Result, answered, SearchRight, rule-refused, model-refused, short-slice, searched, told}
+use Rattle.lines.specs.Decimal.{decimal}
+use Rattle.lines.specs.Text.{foundWord, pairsWord, colon, noneWord, refusedWord, atWord, named, statesText, foundText, noneText, refusedText}
+use Rattle.lines.specs.Writing.{lineRoom, Fits}
+use Rattle.lines.proofs.Decimals.{decimal-short}
+use Rattle.lines.proofs.States.{states-short}
+
+-- a 64-bit number has at most 20 digits
+named-short : (word : List ℕ) (n : ℕ) → n < 2 ^ 64 → length (named word n) ≤ length word + 20
+named-short word n h = let d = decimal-short 19 n (omega arith) in let l = length-append word (decimal n) in omega arith
+
+pub found-room : (long pairs : ℕ) (run : List ℕ) → long < 2 ^ 64 → pairs < 2 ^ 64 → length (statesText run) ≤ 3 * 4096 → length (foundText long run pairs) ≤ lineRoom
+unfolding foundText
+found-room long pairs run h k l =
+    let a = named-short foundWord long h in
+    let b = named-short pairsWord pairs k in
+    let c = length-append (named foundWord long) (named pairsWord pairs) in
+    let d = length-append (named foundWord long ++ named pairsWord pairs) (colon ++ statesText run) in
+    let e = length-append colon (statesText run) in
+    omega arith
+
+pub none-room : (pairs : ℕ) → pairs < 2 ^ 64 → length (noneText pairs) ≤ lineRoom
+unfolding noneText
+none-room pairs h = let a = named-short noneWord pairs h in omega arith
+
+pub refused-room : (number place : ℕ) → number < 2 ^ 64 → place < 2 ^ 64 → length (refusedText number place) ≤ lineRoom
+unfolding refusedText
+refused-room number place h k =
+    let a = named-short refusedWord number h in
+    let b = named-short atWord place k in
+    let c = length-append (named refusedWord number) (named atWord place) in
+    omega arith
+
+-- a model that is read has at most 64 states
+few-states : (s : List ℕ) → models.answer s .model .states ≤ 64
+few-states s = all (records 64 s 0) refl
+  where
+    linked-few : (n : ℕ) → n ≤ 64 → (o : Outcome) → linked n s n 0 ≡ o → models.given s o .model .states ≤ 64
+    linked-few n l (good m) e = let g = linked-good s n n 0 m e in omega (arith, g .0)
+    linked-few n l (fault a b) e = omega arith
+
+    all : (o : Outcome) → records 64 s 0 ≡ o → models.given s (thenLinked s o) .model .states ≤ 64
+    all (good n) e = let f = counts s 64 0 n e .few in linked-few n (omega arith) (linked n s n 0) refl
+    all (fault a b) e = omega arith
+
+-- a find's length is the run's, and none of the run's states is above 63
+module _ (rule model : List ℕ) (before after : Slices) (k : Known) (long c : ℕ) (run : List ℕ) where
+  found-short : {x : Result} → SearchRight rule model before after x → x ≡ answered k long (found run c) → (long ≡ length run) × (length (statesText run) ≤ 3 * length run)
+  found-short (rule-refused q e) w = let z : _≡_ {A = ℕ} 0 1 = cc in absurd (omega arith)
+  found-short (model-refused f v e) w = let z : _≡_ {A = ℕ} 0 1 = cc in absurd (omega arith)
+  found-short (short-slice f v l e) w = let z : _≡_ {A = ℕ} 0 1 = cc in absurd (omega arith)
+  found-short (searched {f} {n} {r} e v l z) w =
+      let g : r ≡ found run c = cc in
+      let M : Model = modelOf (models.answer model .model) in
+      let right : Right M (tableOf (after .table) (weightOf f) (z .finals)) f (found run c) = subst (λ (y : Answer). Right M (tableOf (after .table) (weightOf f) (z .finals)) f y) g (z .right) in
+      (cc, states-short M (few-states model) (M .initial) run (right .0 .matches .0 .1))
+
+-- so the text of every answer has room
+pub search-fits : (rule model : List ℕ) (before after : Slices) (answer : SearchAnswer) (out : List ℕ) → lineRoom ≤ length out → length (after .run) ≡ 4096
+    → SearchRight rule model before after (told answer (after .run)) → Fits answer (after .run) out
+unfolding statesText
+search-fits rule model before after (Answered (Found long pairs) k) out l e x =
+    let f = found-short rule model before after k long pairs (take long (after .run)) x refl in
+    let t = length-take long (after .run) in
+    record { room = l; run-there = omega (arith, f .0); run-short = omega (arith, f .0, f .1) }
+search-fits rule model before after (Answered (Nothing pairs) k) out l e x = record { room = l; run-there = omega arith; run-short = omega arith }
+search-fits rule model before after (RuleRefused x) out l e r = record { room = l; run-there = omega arith; run-short = omega arith }
+search-fits rule model before after (ModelRefused x) out l e r = record { room = l; run-there = omega arith; run-short = omega arith }
+search-fits rule model before after ShortSlice out l e r = record { room = l; run-there = omega arith; run-short = omega arith }

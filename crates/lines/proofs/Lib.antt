@@ -1,0 +1,9 @@
+pub mod Decimals
+pub mod Wrotes
+pub mod Words
+pub mod Numbers
+pub mod States
+pub mod Inputs
+pub mod Fitting
+pub mod Cases
+pub mod Whole

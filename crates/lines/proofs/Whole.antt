@@ -1,0 +1,38 @@
+-- From the search for an input to its line. Assumes nothing.
+use Prim.Native.Nat.{ℕ, _≤_}
+use native.Mathlib.Omega.{arith}
+use mathlib.Core.Path.{_≡_, ap, ap₂, subst, _∙_, refl}
+use mathlib.Core.List.{List}
+use lib.ListN.{length, length-replicate}
+use Rattle.tables.specs.IsTable.{Words}
+use Rattle.search.specs.declared.SearchAnswer.{SearchAnswer}
+use Rattle.search.specs.Answer.{Slices, slices, told, SearchRight}
+use Rattle.lines.specs.Text.{textOf}
+use Rattle.lines.specs.Input.{ruleIn, modelIn}
+use Rattle.lines.specs.Writing.{Wrote, lineRoom, Fits}
+use Rattle.lines.specs.Line.{fresh, LineRight, written}
+use Rattle.lines.proofs.Fitting.{search-fits}
+
+fresh-long : length (fresh .run) ≡ 4096
+unfolding fresh
+fresh-long = length-replicate {A = ℕ} 4096 0
+
+module _ {rule model out : List ℕ} {before after : Slices} (answer : SearchAnswer) (new : before ≡ fresh) (room : lineRoom ≤ length out) (right : SearchRight rule model before after (told answer (after .run))) where
+  pub line-fits : length (after .run) ≡ length (before .run) → Fits answer (after .run) out
+  line-fits e = search-fits rule model before after answer out room (e ∙ ap (λ (s : Slices). length (s .run)) new ∙ fresh-long) right
+
+  pub line-written : {input out′ : List ℕ} {long : ℕ} → rule ≡ ruleIn input → model ≡ modelIn input → Words (after .table) → Wrote (textOf (told answer (after .run))) out 0 out′ long
+      → LineRight input out out′ long
+  line-written {input} p q words w =
+      written (textOf (told answer (after .run))) room
+      (record {
+        after = after;
+        words = words;
+        result = told answer (after .run);
+        right =
+            subst (λ (s : Slices). SearchRight (ruleIn input) (modelIn input) s after (told answer (after .run))) new
+            (subst (λ (s : List ℕ). SearchRight s (modelIn input) before after (told answer (after .run))) p
+            (subst (λ (s : List ℕ). SearchRight rule s before after (told answer (after .run))) q right));
+        says = refl;
+      })
+      w

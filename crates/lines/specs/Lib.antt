@@ -1,0 +1,5 @@
+pub mod Decimal
+pub mod Text
+pub mod Input
+pub mod Writing
+pub mod Line

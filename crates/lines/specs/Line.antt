@@ -1,0 +1,27 @@
+-- The line for every input, and what is left in the slice that it is written to. Assumes nothing: these are definitions.
+use Prim.Native.Nat.{ℕ, _<_, _≤_}
+use mathlib.Core.Path.{_≡_}
+use mathlib.Core.List.{List}
+use lib.ListN.{length, replicate}
+use Rattle.tables.specs.IsTable.{Words}
+use Rattle.search.specs.Answer.{Slices, slices, Result, SearchRight}
+use Rattle.lines.specs.Text.{textOf}
+use Rattle.lines.specs.Input.{ruleIn, modelIn}
+use Rattle.lines.specs.Writing.{Wrote, lineRoom}
+
+-- the slices that the search is lent: 4,096 zeros each
+unfoldable pub fresh : Slices
+fresh = slices (replicate 4096 0) (replicate 4096 0) (replicate 4096 0) (replicate 4096 0)
+
+-- the line says what the search for the input's rule comes to in the input's model
+pub record LineOf (input line : List ℕ) : Type 0 where
+  pub after : Slices
+  pub words : Words (after .table)
+  pub result : Result
+  pub right : SearchRight (ruleIn input) (modelIn input) fresh after result
+  pub says : line ≡ textOf result
+
+-- the slice begins with the line, whose length is answered, and is as it was past it; a slice that is too short is as it was, and 0 is answered
+pub data LineRight (input before after : List ℕ) (long : ℕ) : Type 0 where
+  short-output : length before < lineRoom → after ≡ before → long ≡ 0 → LineRight input before after long
+  written : (line : List ℕ) → lineRoom ≤ length before → LineOf input line → Wrote line before 0 after long → LineRight input before after long

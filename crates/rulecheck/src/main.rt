@@ -1,0 +1,45 @@
+// Reads one input from standard input and prints its line: a byte that says how long the rule is, the rule, and the model.
+use libc::STDIN_FILENO;
+use libc::STDOUT_FILENO;
+
+// The length byte, a rule of 255 bytes and 705 of the model: what comes after never changes the line.
+const INPUT_ROOM: usize = 961;
+
+// The line and the newline that closes it.
+const OUTPUT_ROOM: usize = 16385;
+
+const NEWLINE: u8 = 10;
+
+// The first n bytes.
+fn front(space: &[u8], n: usize) -> &[u8] {
+    if n <= space.len() { &space[..n] } else { space }
+}
+
+// Puts the line and its newline into `out`, and prints them.
+fn print_line(input: &[u8], out: &mut [u8]) {
+    let long = lines::line(input, out);
+    if long < out.len() {
+        out[long] = NEWLINE;
+        io::write_all(STDOUT_FILENO, front(out, long + 1));
+    }
+}
+
+// Reads what is left of standard input, so that whoever writes it is not cut off.
+fn read_rest(space: &mut [u8]) {
+    let mut left: u64 = u64::MAX;
+    while left > 0 {
+        let got = io::read_full(STDIN_FILENO, space);
+        if got == 0 {
+            return;
+        }
+        left -= 1;
+    }
+}
+
+fn main() {
+    let mut space = [0u8; INPUT_ROOM];
+    let mut out = [0u8; OUTPUT_ROOM];
+    let long = io::read_full(STDIN_FILENO, &mut space);
+    print_line(front(&space, long), &mut out);
+    read_rest(&mut space);
+}
