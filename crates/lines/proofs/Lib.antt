@@ -7,3 +7,4 @@ pub mod Inputs
 pub mod Fitting
 pub mod Cases
 pub mod Whole
+pub mod Once

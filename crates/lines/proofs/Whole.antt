@@ -28,7 +28,7 @@ module _ {rule model out : List ℕ} {before after : Slices} (answer : SearchAns
       (record {
         after = after;
         words = words;
-        result = told answer (after .run);
+        answer = answer;
         right =
             subst (λ (s : Slices). SearchRight (ruleIn input) (modelIn input) s after (told answer (after .run))) new
             (subst (λ (s : List ℕ). SearchRight s (modelIn input) before after (told answer (after .run))) p

@@ -4,7 +4,8 @@ use mathlib.Core.Path.{_≡_}
 use mathlib.Core.List.{List}
 use lib.ListN.{length, replicate}
 use Rattle.tables.specs.IsTable.{Words}
-use Rattle.search.specs.Answer.{Slices, slices, Result, SearchRight}
+use Rattle.search.specs.declared.SearchAnswer.{SearchAnswer}
+use Rattle.search.specs.Answer.{Slices, slices, told, SearchRight}
 use Rattle.lines.specs.Text.{textOf}
 use Rattle.lines.specs.Input.{ruleIn, modelIn}
 use Rattle.lines.specs.Writing.{Wrote, lineRoom}
@@ -17,9 +18,9 @@ fresh = slices (replicate 4096 0) (replicate 4096 0) (replicate 4096 0) (replica
 pub record LineOf (input line : List ℕ) : Type 0 where
   pub after : Slices
   pub words : Words (after .table)
-  pub result : Result
-  pub right : SearchRight (ruleIn input) (modelIn input) fresh after result
-  pub says : line ≡ textOf result
+  pub answer : SearchAnswer
+  pub right : SearchRight (ruleIn input) (modelIn input) fresh after (told answer (after .run))
+  pub says : line ≡ textOf (told answer (after .run))
 
 -- the slice begins with the line, whose length is answered, and is as it was past it; a slice that is too short is as it was, and 0 is answered
 pub data LineRight (input before after : List ℕ) (long : ℕ) : Type 0 where

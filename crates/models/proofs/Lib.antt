@@ -6,3 +6,4 @@ pub mod Soundness
 pub mod Finish
 pub mod Unique
 pub mod Examples
+pub mod Beginning

@@ -89,7 +89,7 @@ module _ (s : List ℕ) where
   pub records-last : (k : ℕ) → k ≤ 64 → 64 ≤ k → records (64 - k) s k ≡ records 64 s 0 → records 0 s 64 ≡ records 64 s 0
   records-last k l h i = let e : 64 ≡ k = omega arith in ap (λ (j : ℕ). records (64 - j) s j) e ∙ i
 
-  one-more : (room k : ℕ) → 11 * k < length s → records (suc room) s k ≡ oneRecord s (11 * k) (records room s (k + 1))
+  pub one-more : (room k : ℕ) → 11 * k < length s → records (suc room) s k ≡ oneRecord s (11 * k) (records room s (k + 1))
   unfolding records
   one-more room k h = simp (lt-leb _ _ h)
 

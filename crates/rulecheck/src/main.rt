@@ -10,6 +10,8 @@ const OUTPUT_ROOM: usize = 16385;
 
 const NEWLINE: u8 = 10;
 
+const MOST_READS: u64 = 1 << 60;
+
 // The first n bytes.
 fn front(space: &[u8], n: usize) -> &[u8] {
     if n <= space.len() { &space[..n] } else { space }
@@ -24,9 +26,9 @@ fn print_line(input: &[u8], out: &mut [u8]) {
     }
 }
 
-// Reads what is left of standard input, so that whoever writes it is not cut off.
+// Reads what is left of standard input, so that whoever writes it is not cut off. A loop has to end: no input lasts for this many reads.
 fn read_rest(space: &mut [u8]) {
-    let mut left: u64 = u64::MAX;
+    let mut left: u64 = MOST_READS;
     while left > 0 {
         let got = io::read_full(STDIN_FILENO, space);
         if got == 0 {
@@ -41,5 +43,6 @@ fn main() {
     let mut out = [0u8; OUTPUT_ROOM];
     let long = io::read_full(STDIN_FILENO, &mut space);
     print_line(front(&space, long), &mut out);
-    read_rest(&mut space);
+    let mut rest = io::large_buffer();
+    read_rest(&mut rest);
 }
