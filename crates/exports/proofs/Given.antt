@@ -1,0 +1,62 @@
+-- The numbers of an answer, from the case that the code found. Assumes nothing.
+use Prim.Native.Nat.{ℕ}
+use mathlib.Core.Path.{_≡_, sym, ap, _∙_}
+use mathlib.Core.List.{List}
+use Rattle.rules.specs.declared.Known.{Known}
+use Rattle.rules.specs.declared.RuleAnswer.{RuleAnswer}
+use Rattle.rules.specs.Answer as rules
+use Rattle.models.specs.declared.ModelAnswer.{ModelAnswer}
+use Rattle.models.specs.Answer as models
+use Rattle.tables.specs.declared.TableAnswer.{TableAnswer}
+use Rattle.tables.specs.Answer as tables
+use Rattle.judge.specs.declared.JudgeAnswer.{JudgeAnswer}
+use Rattle.judge.specs.Verdict as judge
+use Rattle.walkers.specs.declared.StepAnswer.{StepAnswer}
+use Rattle.walkers.specs.Steps as walkers
+use Rattle.search.specs.declared.SearchAnswer.{SearchAnswer}
+use Rattle.search.specs.declared.SearchAnswer.the-variants.{Answered}
+use Rattle.search.specs.declared.inner.Searched.{Searched}
+use Rattle.search.specs.Answer as search
+use Rattle.exports.specs.declared.reading.GcRule.{GcRule}
+use Rattle.exports.specs.declared.reading.GcModel.{GcModel}
+use Rattle.exports.specs.declared.building.GcBuilt.{GcBuilt}
+use Rattle.exports.specs.declared.judging.GcJudged.{GcJudged}
+use Rattle.exports.specs.declared.stepping.GcStepped.{GcStepped}
+use Rattle.exports.specs.declared.searching.GcSearched.{GcSearched}
+use Rattle.exports.specs.Numbers.{ruleNumbers, stateNumbers, builtNumbers, judgedNumbers, stepNumbers, searchedNumbers}
+use Rattle.exports.specs.Promise.{Searches}
+
+-- what is right of the case is right of the answer
+pub by-case : {A B : Type 0} (f : A → B) {a case : A} → a ≡ case → {r : B} → r ≡ f case → r ≡ f a
+by-case f e q = q ∙ ap f (sym e)
+
+-- a refusal's numbers, as they were computed
+pub by-numbers : {B : Type 0} (g : ℕ → ℕ → B) {r : B} {n p n′ p′ : ℕ} → r ≡ g n p → n ≡ n′ → p ≡ p′ → r ≡ g n′ p′
+by-numbers g q e e′ = rw (sym e) (rw (sym e′) q)
+
+abbrev pub ruleOf : RuleAnswer → GcRule
+ruleOf a = ruleNumbers (rules.told a)
+
+abbrev pub modelOf : ℕ → ModelAnswer → GcModel
+modelOf states a = stateNumbers states (models.verdictOf a)
+
+abbrev pub builtOf : TableAnswer → GcBuilt
+builtOf a = builtNumbers (tables.told a)
+
+abbrev pub judgedOf : JudgeAnswer → GcJudged
+judgedOf a = judgedNumbers (judge.told a)
+
+abbrev pub stepOf : ℕ → StepAnswer → GcStepped
+stepOf set a = stepNumbers set (walkers.outcome a)
+
+abbrev pub searchedOf : List ℕ → SearchAnswer → GcSearched
+searchedOf run a = searchedNumbers (search.told a run)
+
+-- the case of a search that was answered
+pub answered-as : {a : SearchAnswer} {x y : Searched} {k : Known} → a ≡ Answered x k → x ≡ y → a ≡ Answered y k
+answered-as {k = k} e e′ = e ∙ ap (λ (z : Searched). Answered z k) e′
+
+-- the numbers of a right answer are promised, whatever output they were computed for
+pub searches : {rule model : List ℕ} {before after : search.Slices} (x : SearchAnswer) {r : GcSearched} → search.SearchRight rule model before after (search.told x (after .run))
+    → ((run : List ℕ) → r ≡ searchedOf run x) → Searches rule model before after r
+searches {after = after} x right given = record { answer = x; right = right; given = given (after .run) }

@@ -1,0 +1,3 @@
+-- What the proofs of several functions use, and that no second answer fits.
+pub mod Given
+pub mod Once

@@ -1,0 +1,51 @@
+-- No second answer fits the promise of a call, nor a second content of what is lent: the library's own answer is one, and the numbers are told of it.
+-- `Words` says that the entries of a table slice are 64-bit words, as those of every slice of u64 are. Assumes nothing.
+use Prim.Native.Nat.{ℕ}
+use mathlib.Core.Path.{_≡_, sym, ap, ap₂, _∙_}
+use mathlib.Core.List.{List}
+use Rattle.rules.specs.Answer as rules
+use Rattle.models.specs.Answer as models
+use Rattle.tables.specs.declared.TableAnswer.{TableAnswer}
+use Rattle.tables.specs.IsTable.{Words}
+use Rattle.tables.specs.Answer as tables
+use Rattle.tables.proofs.Once as tables-once
+use Rattle.judge.specs.declared.JudgeAnswer.{JudgeAnswer}
+use Rattle.judge.specs.Verdict as judge
+use Rattle.judge.proofs.Once as judge-once
+use Rattle.walkers.specs.Steps as walkers
+use Rattle.search.specs.declared.SearchAnswer.{SearchAnswer}
+use Rattle.search.specs.Answer as search
+use Rattle.search.proofs.Once as search-once
+use Rattle.exports.specs.declared.reading.GcRule.{GcRule}
+use Rattle.exports.specs.declared.reading.GcModel.{GcModel}
+use Rattle.exports.specs.declared.building.GcBuilt.{GcBuilt}
+use Rattle.exports.specs.declared.judging.GcJudged.{GcJudged}
+use Rattle.exports.specs.declared.stepping.GcStepped.{GcStepped}
+use Rattle.exports.specs.declared.searching.GcSearched.{GcSearched}
+use Rattle.exports.specs.Numbers.{ruleNumbers, modelNumbers, builtNumbers, judgedNumbers, walker, steppedNumbers, searchedNumbers}
+use Rattle.exports.specs.Promise.{Built, Judges, Searches}
+
+pub one-rule : (s : List ℕ) (r r′ : GcRule) → r ≡ ruleNumbers (rules.answer s) → r′ ≡ ruleNumbers (rules.answer s) → r ≡ r′
+one-rule s r r′ e e′ = e ∙ sym e′
+
+pub one-model : (s : List ℕ) (r r′ : GcModel) → r ≡ modelNumbers (models.answer s) → r′ ≡ modelNumbers (models.answer s) → r ≡ r′
+one-model s r r′ e e′ = e ∙ sym e′
+
+pub one-step : (t : List ℕ) (set finals x : ℕ) (r r′ : GcStepped) → r ≡ steppedNumbers (walkers.stepOf t (walker set finals) x) → r′ ≡ steppedNumbers (walkers.stepOf t (walker set finals) x)
+    → r ≡ r′
+one-step t set finals x r r′ e e′ = e ∙ sym e′
+
+pub one-build : (s t u v : List ℕ) (r r′ : GcBuilt) → Words u → Words v → Built s t u r → Built s t v r′ → (r ≡ r′) × (u ≡ v)
+one-build s t u v r r′ hu hv b b′ =
+    let o = tables-once.one-answer s t u v (b .answer) (b′ .answer) hu hv (b .right) (b′ .right) in
+    (b .given ∙ ap (λ (a : TableAnswer). builtNumbers (tables.told a)) (o .0) ∙ sym (b′ .given), o .1)
+
+pub one-judgement : (s w : List ℕ) (r r′ : GcJudged) → Judges s w r → Judges s w r′ → r ≡ r′
+one-judgement s w r r′ j j′ =
+    let o = judge-once.one-answer s w (j .answer) (j′ .answer) (j .right) (j′ .right) in
+    j .given ∙ ap (λ (a : JudgeAnswer). judgedNumbers (judge.told a)) o ∙ sym (j′ .given)
+
+pub one-search : (s g : List ℕ) (b a d : search.Slices) (r r′ : GcSearched) → Words (a .table) → Words (d .table) → Searches s g b a r → Searches s g b d r′ → (r ≡ r′) × (a ≡ d)
+one-search s g b a d r r′ ha hd x x′ =
+    let o = search-once.one-search-answer s g b a d (x .answer) (x′ .answer) ha hd (x .right) (x′ .right) in
+    (x .given ∙ ap₂ (λ (y : SearchAnswer) (l : search.Slices). searchedNumbers (search.told y (l .run))) (o .0) (o .1) ∙ sym (x′ .given), o .1)

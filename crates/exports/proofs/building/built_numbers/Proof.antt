@@ -1,0 +1,54 @@
+-- `exports::building::built_numbers` meets its contract: what is given are the numbers of the case that the answer is. Assumes nothing.
+use mathlib.Core.Path.{refl}
+use Prim.Native.Nat.{ℕ}
+use Rattle.tables.specs.Answer as tables
+use Rattle.exports.specs.Numbers.{builtNumbers}
+use Rattle.exports.proofs.Given.{by-case, by-numbers, builtOf}
+use borrow.Author.Needs.{needs}
+use Rattle.exports.proofs.building.built_numbers.Statement.{statement}
+use Rattle.exports.proofs.building.built_numbers.Tie as tie
+
+enum-known-answer : tie.Need-enum-known-answer
+enum-known-answer c = search needs
+
+enum-known-answer-2 : tie.Need-enum-known-answer-2
+enum-known-answer-2 c = search needs
+
+number-requires : tie.Need-number-requires
+number-requires c κs = search needs
+
+place-requires : tie.Need-place-requires
+place-requires c κs = search needs
+
+refused-requires : tie.Need-refused-requires
+refused-requires c κs = search needs
+
+enum-told : tie.Need-enum-told
+enum-told c = search needs
+
+refused-requires-2 : tie.Need-refused-requires-2
+refused-requires-2 c κs = search needs
+
+returns : tie.Need-returns
+returns c = by-case builtOf (c .before .answer .given .1) refl
+
+returns-2 : tie.Need-returns-2
+returns-2 c = by-case builtOf (c .before .before .before .before .answer2 .given .1) (by-numbers (λ (n p : ℕ). builtNumbers (tables.refused n p)) (c .refused .ensures) (c .before .before .number .ensures) (c .before .place .ensures))
+
+returns-3 : tie.Need-returns-3
+returns-3 c = by-case builtOf (c .before .enum-told .given .1) (c .refused2 .ensures)
+
+pub built-numbers-spec : {M : Type 1} → statement M
+built-numbers-spec =
+    tie.close
+    (tie.spec
+    enum-known-answer
+    enum-known-answer-2
+    number-requires
+    place-requires
+    refused-requires
+    enum-told
+    refused-requires-2
+    returns
+    returns-2
+    returns-3)

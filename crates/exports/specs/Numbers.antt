@@ -1,0 +1,60 @@
+-- The numbers that each call gives back for the library's answer: `refused` is 0 for an answer, else the refusal's number, with its place, and the rest is 0.
+-- Assumes nothing: these are definitions.
+use Prim.Native.Nat.{ℕ}
+use mathlib.Core.Bool.{Bool, true, false}
+use Rattle.rules.specs.Answer as rules
+use Rattle.models.specs.Answer as models
+use Rattle.tables.specs.Answer as tables
+use Rattle.judge.specs.Verdict as judge
+use Rattle.walkers.specs.declared.Walker.{Walker}
+use Rattle.walkers.specs.Steps as walkers
+use Rattle.search.specs.Right.{found, nothing}
+use Rattle.search.specs.Answer as search
+use Rattle.exports.specs.declared.reading.GcRule.{GcRule}
+use Rattle.exports.specs.declared.reading.GcModel.{GcModel}
+use Rattle.exports.specs.declared.building.GcBuilt.{GcBuilt}
+use Rattle.exports.specs.declared.judging.GcJudged.{GcJudged}
+use Rattle.exports.specs.declared.stepping.GcStepped.{GcStepped}
+use Rattle.exports.specs.declared.searching.GcSearched.{GcSearched}
+
+-- yes is 1, no is 0
+abbrev pub digit : Bool → ℕ
+digit true = 1
+digit false = 0
+
+abbrev pub ruleNumbers : rules.Result → GcRule
+ruleNumbers (rules.accepted k) = record { refused = 0; place = 0; weight = k .weight }
+ruleNumbers (rules.refused n p) = record { refused = n; place = p; weight = 0 }
+
+abbrev pub stateNumbers : ℕ → models.Verdict → GcModel
+stateNumbers states models.accepted = record { refused = 0; place = 0; states = states }
+stateNumbers states (models.refused n p) = record { refused = n; place = p; states = 0 }
+
+-- of a model only the number of its states is given back
+abbrev pub modelNumbers : models.Result → GcModel
+modelNumbers m = stateNumbers (m .model .states) (m .verdict)
+
+abbrev pub builtNumbers : tables.Result → GcBuilt
+builtNumbers (tables.tabled k f) = record { refused = 0; place = 0; weight = k .weight; finals = f }
+builtNumbers (tables.refused n p) = record { refused = n; place = p; weight = 0; finals = 0 }
+
+abbrev pub judgedNumbers : judge.Verdict → GcJudged
+judgedNumbers (judge.judged b k) = record { refused = 0; place = 0; accepts = digit b }
+judgedNumbers (judge.refused n p) = record { refused = n; place = p; accepts = 0 }
+
+-- the walker that a caller spells as two numbers
+abbrev pub walker : ℕ → ℕ → Walker
+walker set finals = record { set = set; finals = finals }
+
+-- beside what a step says stands the walker's set
+abbrev pub stepNumbers : ℕ → walkers.Outcome → GcStepped
+stepNumbers set (walkers.flag b) = record { refused = 0; place = 0; set = set; matched = digit b }
+stepNumbers set (walkers.refusal n p) = record { refused = n; place = p; set = set; matched = 0 }
+
+abbrev pub steppedNumbers : walkers.Told → GcStepped
+steppedNumbers t = stepNumbers (t .walker .set) (t .says)
+
+abbrev pub searchedNumbers : search.Result → GcSearched
+searchedNumbers (search.answered k n (found r c)) = record { refused = 0; place = 0; found = 1; length = n; pairs = c }
+searchedNumbers (search.answered k n (nothing c)) = record { refused = 0; place = 0; found = 0; length = 0; pairs = c }
+searchedNumbers (search.refused n p) = record { refused = n; place = p; found = 0; length = 0; pairs = 0 }

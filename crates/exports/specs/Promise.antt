@@ -1,0 +1,33 @@
+-- What each call of the C interface promises: the numbers are those of an answer that is right for what was given and for what the lent slices hold after it.
+-- Assumes nothing: these are definitions.
+use Prim.Native.Nat.{ℕ}
+use mathlib.Core.Path.{_≡_}
+use mathlib.Core.List.{List}
+use Rattle.tables.specs.declared.TableAnswer.{TableAnswer}
+use Rattle.tables.specs.Answer as tables
+use Rattle.judge.specs.declared.JudgeAnswer.{JudgeAnswer}
+use Rattle.judge.specs.Verdict as judge
+use Rattle.search.specs.declared.SearchAnswer.{SearchAnswer}
+use Rattle.search.specs.Answer as search
+use Rattle.exports.specs.declared.building.GcBuilt.{GcBuilt}
+use Rattle.exports.specs.declared.judging.GcJudged.{GcJudged}
+use Rattle.exports.specs.declared.searching.GcSearched.{GcSearched}
+use Rattle.exports.specs.Numbers.{builtNumbers, judgedNumbers, searchedNumbers}
+
+-- gc_build: the rule's bytes s, and the table slice before and after
+pub record Built (s t t′ : List ℕ) (r : GcBuilt) : Type 0 where
+  pub answer : TableAnswer
+  pub right : tables.Right s t t′ (tables.told answer)
+  pub given : r ≡ builtNumbers (tables.told answer)
+
+-- gc_judge: the rule's bytes s and the letters w
+pub record Judges (s w : List ℕ) (r : GcJudged) : Type 0 where
+  pub answer : JudgeAnswer
+  pub right : judge.Right s w (judge.told answer)
+  pub given : r ≡ judgedNumbers (judge.told answer)
+
+-- gc_search: the bytes of the rule and of the model, and the four slices before and after
+pub record Searches (rule model : List ℕ) (before after : search.Slices) (r : GcSearched) : Type 0 where
+  pub answer : SearchAnswer
+  pub right : search.SearchRight rule model before after (search.told answer (after .run))
+  pub given : r ≡ searchedNumbers (search.told answer (after .run))

@@ -1,0 +1,53 @@
+// Building a rule's table.
+ghost use mathlib.Core.Path.{_≡_};
+ghost use Rattle.tables.specs.Answer as tables;
+ghost use Rattle.exports.specs.Numbers.{builtNumbers};
+ghost use Rattle.exports.specs.Promise.{Built};
+use crate::refusals::SHORT_SLICE;
+use tables::TableAnswer;
+
+// What building gives back: the weight, and the set of the final states.
+#[repr(C)]
+pub struct GcBuilt {
+    pub refused: u64,
+    pub place: u64,
+    pub weight: u64,
+    pub finals: u64,
+}
+
+// A refusal: the rest is 0.
+fn refused(number: u64, place: u64) -> GcBuilt
+    ensures { λ r. ⌜ r ≡ builtNumbers (tables.refused number place) ⌝ }
+{
+    GcBuilt {
+        refused: number,
+        place,
+        weight: 0,
+        finals: 0,
+    }
+}
+
+// The numbers for each case of the answer.
+fn built_numbers(answer: TableAnswer) -> GcBuilt
+    ensures { λ r. ⌜ r ≡ builtNumbers (tables.told answer) ⌝ }
+{
+    match answer {
+        TableAnswer::Tabled { rule, finals } => GcBuilt {
+            refused: 0,
+            place: 0,
+            weight: rule.weight as u64,
+            finals,
+        },
+        TableAnswer::RuleRefused(x) => refused(x.number(), x.place() as u64),
+        TableAnswer::ShortTable => refused(SHORT_SLICE, 0),
+    }
+}
+
+// Builds the rule's table in the slice.
+#[no_mangle]
+pub extern "C" fn gc_build(rule: &[u8], table: &mut [u64]) -> GcBuilt
+    ensures { λ r. ⌜ Built (now (rule .entry)) (now (table .entry)) (now (table .exit)) r ⌝ }
+{
+    let answer = tables::build(rule, table);
+    built_numbers(answer)
+}

@@ -1,0 +1,10 @@
+// The C interface that include/gongcollar.h declares: one thin function for each call of the library.
+// An answer is a struct of numbers by value; a slice is passed as a pointer and a length.
+
+mod refusals; // the numbers of refusals
+mod reading; // a rule, a model
+mod building; // a rule's table
+mod judging; // the plain judge
+mod stepping; // a walker
+mod searching; // a model, for a rule
+mod checking; // one input, as a line

@@ -1,0 +1,34 @@
+/* Gongcollar's C interface. Every call is proved in Rattle; this header is what a host declares.
+ *
+ * A slice is a pointer and a count of elements. Slices that are lent together must not overlap. In every
+ * answer `refused` is 0 for an answer, else the refusal's number, with `place`; the other fields are then 0
+ * (but for gc_step, which gives the walker's set back as it came). A refusal leaves every lent slice as it was.
+ *
+ * Refusals: 1 to 7 a rule's, 11 to 16 a model's, 21 a lent slice has fewer than 4,096 entries, 22 a byte that is
+ * no letter, 23 more than 16 letters for gc_judge. A table's label from p to q stands at 64p+q; a set has bit q
+ * for state q. */
+#ifndef GONGCOLLAR_H
+#define GONGCOLLAR_H
+#include <stddef.h>
+#include <stdint.h>
+
+typedef struct { uint64_t refused, place, weight; } gc_rule;
+typedef struct { uint64_t refused, place, weight, finals; } gc_built;
+typedef struct { uint64_t refused, place, accepts; } gc_judged;
+typedef struct { uint64_t refused, place, set, matched; } gc_stepped;
+typedef struct { uint64_t refused, place, states; } gc_model;
+typedef struct { uint64_t refused, place, found, length, pairs; } gc_searched;
+
+gc_rule gc_read_rule(const uint8_t *rule, size_t rule_len);
+gc_built gc_build(const uint8_t *rule, size_t rule_len, uint64_t *table, size_t table_len);
+gc_judged gc_judge(const uint8_t *rule, size_t rule_len, const uint8_t *letters, size_t letters_len);
+/* a walker is its set and its finals; a fresh one is at set 1 */
+gc_stepped gc_step(uint64_t set, uint64_t finals, const uint64_t *table, size_t table_len, uint8_t letter);
+gc_model gc_read_model(const uint8_t *model, size_t model_len);
+gc_searched gc_search(const uint8_t *rule, size_t rule_len, const uint8_t *model, size_t model_len,
+                      uint64_t *table, size_t table_len, uint16_t *work1, size_t work1_len,
+                      uint16_t *work2, size_t work2_len, uint8_t *run, size_t run_len);
+/* rulecheck's line for one input (without the closing newline) into out, which holds 16,384 bytes or more;
+ * the answer is the line's length, 0 where out is shorter than that, and out is then untouched */
+uint64_t gc_rulecheck(const uint8_t *input, size_t input_len, uint8_t *out, size_t out_len);
+#endif
