@@ -8,3 +8,4 @@ pub mod Fitting
 pub mod Cases
 pub mod Whole
 pub mod Once
+pub mod Beginning
