@@ -12,17 +12,13 @@ const NEWLINE: u8 = 10;
 
 const MOST_READS: u64 = 1 << 60;
 
-// The first n bytes.
-fn front(space: &[u8], n: usize) -> &[u8] {
-    if n <= space.len() { &space[..n] } else { space }
-}
-
 // Puts the line and its newline into `out`, and prints them.
 fn print_line(input: &[u8], out: &mut [u8]) {
     let long = lines::line(input, out);
     if long < out.len() {
         out[long] = NEWLINE;
-        io::write_all(STDOUT_FILENO, front(out, long + 1));
+        let end = long + 1;
+        io::write_all(STDOUT_FILENO, &out[..end]);
     }
 }
 
@@ -42,7 +38,7 @@ fn main() {
     let mut space = [0u8; INPUT_ROOM];
     let mut out = [0u8; OUTPUT_ROOM];
     let long = io::read_full(STDIN_FILENO, &mut space);
-    print_line(front(&space, long), &mut out);
+    print_line(&space[..long], &mut out);
     let mut rest = io::large_buffer();
     read_rest(&mut rest);
 }
