@@ -1,4 +1,5 @@
 pub mod Decimals
+pub mod Values
 pub mod Wrotes
 pub mod Words
 pub mod Numbers
