@@ -19,7 +19,7 @@ use Rattle.search.specs.Right.{Answer, found, Right}
 use Rattle.search.specs.Answer.{Slices, Result, answered, SearchRight, rule-refused, model-refused, short-slice, searched, told}
 use Rattle.lines.specs.Decimal.{decimal}
 use Rattle.lines.specs.Text.{foundWord, pairsWord, colon, noneWord, refusedWord, atWord, named, statesText, foundText, noneText, refusedText}
-use Rattle.lines.specs.Writing.{lineRoom, Fits}
+use Rattle.lines.specs.Room.{lineRoom, Fits}
 use Rattle.lines.proofs.Decimals.{decimal-short}
 use Rattle.lines.proofs.States.{states-short}
 

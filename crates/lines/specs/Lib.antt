@@ -2,4 +2,5 @@ pub mod Decimal
 pub mod Text
 pub mod Input
 pub mod Writing
+pub mod Room
 pub mod Line

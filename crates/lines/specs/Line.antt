@@ -8,7 +8,8 @@ use Rattle.search.specs.declared.SearchAnswer.{SearchAnswer}
 use Rattle.search.specs.Answer.{Slices, slices, told, SearchRight}
 use Rattle.lines.specs.Text.{textOf}
 use Rattle.lines.specs.Input.{ruleIn, modelIn}
-use Rattle.lines.specs.Writing.{Wrote, lineRoom}
+use Rattle.lines.specs.Writing.{Wrote}
+use Rattle.lines.specs.Room.{lineRoom}
 
 -- the slices that the search is lent: 4,096 zeros each
 unfoldable pub fresh : Slices

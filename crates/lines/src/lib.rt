@@ -4,7 +4,7 @@ ghost use Prim.Native.Nat.{_≤_};
 ghost use lib.ListN.{length, take, drop};
 ghost use Rattle.search.specs.Answer.{slices};
 ghost use Rattle.lines.specs.Input.{ruleIn, modelIn};
-ghost use Rattle.lines.specs.Writing.{lineRoom};
+ghost use Rattle.lines.specs.Room.{lineRoom};
 ghost use Rattle.lines.specs.Line.{fresh, LineRight};
 use crate::answers::put_answer;
 
