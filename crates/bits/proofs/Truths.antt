@@ -12,8 +12,8 @@ pub or-T : (a b : Bool) → T (a || b) ↔ (T a ⊎ T b)
 or-T true b = (λ t. inl tt, λ h. tt)
 or-T false b = (λ t. inr t, elim [ inl t ↦ absurd t | inr t ↦ t ])
 
-pub true-T : (b : Bool) → b ≡ true → T b
-true-T b e = rw e tt
+pub true-T : {b : Bool} → b ≡ true → T b
+true-T e = rw e tt
 
 pub T-true : (b : Bool) → T b → b ≡ true
 T-true true t = refl
@@ -23,8 +23,8 @@ pub no-false : (b : Bool) → (T b → ⊥) → b ≡ false
 no-false true n = absurd (n tt)
 no-false false n = refl
 
-pub false-no : (b : Bool) → b ≡ false → T b → ⊥
-false-no b e t = rw e at t
+pub false-no : {b : Bool} → b ≡ false → T b → ⊥
+false-no e t = rw e at t
 
 -- two answers that say the same are the same
 pub same-truth : (a b : Bool) → (T a → T b) → (T b → T a) → a ≡ b

@@ -1,3 +1,3 @@
 pub mod Word
-pub mod Wide
+pub mod Bytes
 pub mod Says

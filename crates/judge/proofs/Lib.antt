@@ -1,4 +1,3 @@
-pub mod Sayings
 pub mod Tries
 pub mod Rows
 pub mod Meaning

@@ -1,7 +1,6 @@
 -- From the answers for the parts of a sequence to what a rule accepts. Assumes nothing.
 use mathlib.Core.Path.{_≡_, refl, ap, sym, subst, subst⁻¹, _∙_}
 use mathlib.Core.List.{List, [], _∷_, _++_, append-assoc}
-use mathlib.Core.Bool.{Bool, true}
 use mathlib.Core.Logic.{_⊎_, ⊎-elim, inl, inr, _≢_}
 use Prim.Native.Nat.{ℕ, zero, suc, _+_, _-_, _≤_, _<_}
 use native.Mathlib.Omega.{arith}
@@ -16,7 +15,8 @@ use Rattle.rules.specs.Definition1.{Formula, Rule, letter, empty, two, again}
 use Rattle.rules.specs.Definition2.{holds, OneLetter, Parts, Overlaps, Begins, Repeats, none, more, Sat}
 use Rattle.judge.specs.Parts.{Few, part, yes, Judged, Filled}
 use Rattle.judge.specs.Cut.{LetterAt, ThenAt, OverlapAt, BeginsAt, WithinAt, PairAt, StepAt, StarAt, PlusOf}
-use Rattle.judge.proofs.Sayings.{says-map, says-in}
+use Rattle.bits.proofs.Truths.{T-true}
+use Rattle.bits.proofs.Sayings.{says-map, says-in}
 
 module _ (w : List ℕ) (i e : ℕ) (ie : i ≤ e) (ew : e ≤ length w) where
   -- a part is what stands before a cut and what stands after it
@@ -171,10 +171,7 @@ module _ (w : List ℕ) (short : Few w) where
       let next : e ≡ i + 1 = omega (arith, ap length (s .whole), length-slice i e w ew) in
       let lt : i < e = omega arith in
       let head : getD w i 0 ≡ s .x = ap (λ (l : List ℕ). getD l 0 0) (sym (slice-cons i e w 0 lt ew) ∙ s .whole) in
-      record { one = next; inside = omega arith; fits = ap (holds f) head ∙ is-true (holds f (s .x)) (s .fits) }
-    where
-      is-true : (b : Bool) → T b → b ≡ true
-      is-true true t = refl
+      record { one = next; inside = omega arith; fits = ap (holds f) head ∙ T-true (holds f (s .x)) (s .fits) }
 
   pub judged-letter : (f : Formula) {r : List ℕ} → Filled (LetterAt f w) r → Judged (Sat (letter f)) w r
   unfolding Sat

@@ -4,20 +4,18 @@ use native.Mathlib.Omega.{arith}
 use mathlib.Core.Path.{_≡_, refl, sym, ap, subst⁻¹, _∙_}
 use mathlib.Core.Bool.{Bool}
 use mathlib.Core.List.{List}
-use lib.Dec.{eqb, ltb}
+use lib.Dec.{eqb}
 use Rattle.bits.specs.Says.{Says}
-use Rattle.rules.specs.declared.Refusal.{Refusal}
 use Rattle.rules.specs.Definition1.{Rule}
 use Rattle.rules.specs.Definition2.{Sat}
 use Rattle.rules.specs.Kinds.{pick}
-use Rattle.rules.specs.Refusals.{number, place}
 use Rattle.rules.specs.Answer.{AcceptedAs, knownOf}
 use Rattle.rules.proofs.Accepting.{not-refused, accepted-once}
-use Rattle.rules.proofs.Once.{named, named-told, of-a-rule}
+use Rattle.rules.proofs.Once.{handedOn, handed-on}
 use Rattle.judge.specs.declared.JudgeAnswer.{JudgeAnswer}
 use Rattle.judge.specs.declared.JudgeAnswer.the-variants.{Judged, RuleRefused, TooManyLetters, NoLetter}
 use Rattle.judge.specs.Verdict.{Verdict, judged, refused, told, Right, rule-refused, too-many, no-letter, decided}
-use Rattle.judge.proofs.Sayings.{says-once}
+use Rattle.bits.proofs.Sayings.{says-once}
 use Rattle.judge.proofs.Strays.{stray-once, no-stray}
 
 module _ (s w : List ℕ) where
@@ -47,19 +45,13 @@ module _ (s w : List ℕ) where
   one-verdict (decided a f h d) (decided a′ f′ h′ d′) = same-answer _ _ a a′ _ _ d d′
 
 -- the answer that a verdict tells of: `told` loses nothing
-abbrev refusalOf : ℕ → ℕ → JudgeAnswer
-refusalOf n p = pick (ltb n 8) (RuleRefused (named n p)) (pick (eqb n 22) (NoLetter p) TooManyLetters)
-
 abbrev meant : Verdict → JudgeAnswer
 meant (judged b k) = Judged b k
-meant (refused n p) = refusalOf n p
-
-meant-refusal : (x : Refusal) → refusalOf (number x) (place x) ≡ RuleRefused x
-meant-refusal x = rw (of-a-rule x) (ap RuleRefused (named-told x))
+meant (refused n p) = handedOn RuleRefused (pick (eqb n 22) (NoLetter p) TooManyLetters) n p
 
 meant-told : (a : JudgeAnswer) → meant (told a) ≡ a
 meant-told (Judged b k) = refl
-meant-told (RuleRefused x) = meant-refusal x
+meant-told (RuleRefused x) = handed-on RuleRefused _ x
 meant-told TooManyLetters = refl
 meant-told (NoLetter i) = refl
 

@@ -1,6 +1,6 @@
 -- What the loops that fill the answers know: the cells passed say what they are to say. Assumes nothing.
 use mathlib.Core.Path.{_≡_, refl, ap, sym, subst, subst⁻¹, _∙_}
-use mathlib.Core.Bool.{Bool, true, false, _||_}
+use mathlib.Core.Bool.{Bool, true, false, _||_, or-true, or-false}
 use mathlib.Core.Logic.{_⊎_, ⊎-elim, inl, inr, _≢_}
 use mathlib.Core.List.{List}
 use Prim.Native.Nat.{ℕ, _+_, _-_, _≤_, _<_}
@@ -12,10 +12,10 @@ use lib.Seq.{getD-set-same, getD-set-other}
 use borrow.Author.Tests.{eq-eqb, ne-eqb, eqb-true, eqb-false}
 use Rattle.bits.specs.Says.{Says}
 use Rattle.bits.specs.Word.{bit, insert}
-use Rattle.bits.proofs.Laws.{bit-zero, bit-insert, or-true, or-false}
+use Rattle.bits.proofs.Laws.{bit-zero, bit-insert}
 use Rattle.judge.specs.Parts.{side, yes, RowOf, Filled}
 use Rattle.judge.specs.Cut.{StarAt}
-use Rattle.judge.proofs.Sayings.{said-yes, said-no, says-map}
+use Rattle.bits.proofs.Sayings.{said-yes, said-no, says-map}
 
 -- the row's bits below n say P, and it has no others
 pub record RowTo (P : ℕ → Type 0) (row n : ℕ) : Type 0 where

@@ -4,7 +4,7 @@ use mathlib.Core.Path.{_≡_, refl, ap}
 use mathlib.Core.List.{List, [], _∷_, _++_}
 use lib.ListN.{replicate, take}
 use Rattle.bits.specs.Word.{bit, word, any}
-use Rattle.bits.specs.Wide.{little}
+use Rattle.bits.specs.Bytes.{little}
 use Rattle.models.specs.declared.ModelData.{ModelData}
 use Rattle.models.specs.Reading.{good, fault, oneRecord, records, straying, linked, reading}
 use Rattle.models.specs.Stored.{entries, column}

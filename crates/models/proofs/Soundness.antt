@@ -1,6 +1,5 @@
 -- What is read is a sound model, and so is the one with no states that comes with a refusal. Assumes nothing.
-use Prim.Native.Nat.{ℕ, zero, suc, _+_, _*_, _^_, _≤_, _<_, zero-le, suc-le-suc}
-use native.Mathlib.Nat.{pow-suc}
+use Prim.Native.Nat.{ℕ, _+_, _*_, _^_, _≤_, _<_, zero-le, suc-le-suc}
 use native.Mathlib.Omega.{arith}
 use mathlib.Core.Path.{_≡_, refl, sym, ap, subst, _∙_}
 use mathlib.Core.Bool.{true, false, not, _&&_, false≢true}
@@ -10,19 +9,13 @@ use lib.Dec.{eqb, ltb, lit<}
 use lib.ListN.{getD, replicate, getD-replicate, List·getD-eq-default}
 use borrow.Author.Tests.{le-ltb}
 use Rattle.bits.specs.Word.{bit, word}
-use Rattle.bits.specs.Wide.{little}
+use Rattle.bits.proofs.Bytes.{little-lt}
 use Rattle.bits.proofs.Laws.{lt-or-ge, bit-zero, bit-above, word-lt, any-intro}
 use Rattle.models.specs.Reading.{Outcome, good, fault, letter, flag, successors, straying, records, linked, thenLinked}
 use Rattle.models.specs.Stored.{column, stored, noStates, modelOf, Sound, Held}
 use Rattle.models.specs.Answer.{given, answer}
 use Rattle.models.proofs.Passes.{counts, linked-good}
 use Rattle.models.proofs.Columns.{column-long, column-at, column-past}
-
--- 8 bytes are a number below 2 ^ 64
-little-lt : (s : List ℕ) → ((i : ℕ) → getD s i 0 < 256) → (n p : ℕ) → little n s p < 256 ^ n
-unfolding little
-little-lt s bytes zero p = suc-le-suc zero-le
-little-lt s bytes (suc n) p = omega (arith, bytes p, little-lt s bytes n (p + 1), pow-suc 256 n)
 
 -- a set with no member at or above n
 pub stays : (n w t : ℕ) → w < 2 ^ 64 → straying n w ≡ false → bit w t ≡ true → t < n

@@ -1,7 +1,7 @@
 -- No second answer fits the reader's promise. Assumes nothing.
 use Prim.Native.Nat.{ℕ}
 use mathlib.Core.Path.{_≡_, refl, sym, ap, _∙_}
-use mathlib.Core.Bool.{Bool, true, false}
+use mathlib.Core.Bool.{cond}
 use mathlib.Core.List.{List}
 use lib.Dec.{eqb}
 use Rattle.models.specs.declared.Refusal.{Refusal}
@@ -11,33 +11,32 @@ use Rattle.models.specs.declared.ModelAnswer.the-variants.{Accepted, Ref
 use Rattle.models.specs.declared.ModelRead.{ModelRead}
 use Rattle.models.specs.Answer.{number, place, Verdict, accepted, refused, Result, verdictOf, told, answer}
 
-abbrev either : Bool → Refusal → Refusal → Refusal
-either true a b = a
-either false a b = b
-
 -- the refusal that has this number and place
-abbrev refusalOf : ℕ → ℕ → Refusal
-refusalOf n p =
-    either (eqb n 11) TooMany (either (eqb n 12) (WrongKind p) (either (eqb n 13) (CutShort p) (either (eqb n 14) (LetterTooLarge p) (either (eqb n 15) (WrongFlag p) (NoSuchState p)))))
+abbrev pub named : ℕ → ℕ → Refusal
+named n p =
+    cond (eqb n 11) TooMany
+    (cond (eqb n 12) (WrongKind p)
+    (cond (eqb n 13) (CutShort p)
+    (cond (eqb n 14) (LetterTooLarge p) (cond (eqb n 15) (WrongFlag p) (NoSuchState p)))))
 
 abbrev answerOf : Verdict → ModelAnswer
 answerOf accepted = Accepted
-answerOf (refused n p) = Refused (refusalOf n p)
+answerOf (refused n p) = Refused (named n p)
 
 abbrev untold : Result → ModelRead
 untold r = record { answer = answerOf (r .verdict); model = r .model }
 
-refusal-back : (x : Refusal) → refusalOf (number x) (place x) ≡ x
-refusal-back TooMany = refl
-refusal-back (WrongKind p) = refl
-refusal-back (CutShort p) = refl
-refusal-back (LetterTooLarge p) = refl
-refusal-back (WrongFlag p) = refl
-refusal-back (NoSuchState p) = refl
+named-told : (x : Refusal) → named (number x) (place x) ≡ x
+named-told TooMany = refl
+named-told (WrongKind p) = refl
+named-told (CutShort p) = refl
+named-told (LetterTooLarge p) = refl
+named-told (WrongFlag p) = refl
+named-told (NoSuchState p) = refl
 
 answer-back : (a : ModelAnswer) → answerOf (verdictOf a) ≡ a
 answer-back Accepted = refl
-answer-back (Refused x) = ap Refused (refusal-back x)
+answer-back (Refused x) = ap Refused (named-told x)
 
 -- `told` has a left inverse
 told-back : (r : ModelRead) → untold (told r) ≡ r

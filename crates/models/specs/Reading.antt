@@ -6,7 +6,7 @@ use mathlib.Core.List.{List}
 use lib.Dec.{eqb, leb, ltb}
 use lib.ListN.{length, getD}
 use Rattle.bits.specs.Word.{bit, any}
-use Rattle.bits.specs.Wide.{little}
+use Rattle.bits.specs.Bytes.{little}
 
 -- what reading comes to: the number of states, or a refusal's number and place
 pub data Outcome : Type 0 where

@@ -14,7 +14,7 @@ use Rattle.rules.specs.Refusals.{number, place}
 use Rattle.rules.specs.Answer.{Result, accepted, refused, answer, told}
 
 -- the rule's refusal of a number and a place
-abbrev pub named : ℕ → ℕ → Refusal
+abbrev named : ℕ → ℕ → Refusal
 named n p =
     pick (eqb n 1) TooLong
     (pick (eqb n 2) (Ended p)
@@ -25,7 +25,7 @@ abbrev meant : Result → RuleAnswer
 meant (accepted k) = Accepted k
 meant (refused n p) = Refused (named n p)
 
-pub named-told : (x : Refusal) → named (number x) (place x) ≡ x
+named-told : (x : Refusal) → named (number x) (place x) ≡ x
 named-told TooLong = refl
 named-told (Ended p) = refl
 named-told (UnknownKind p) = refl
@@ -35,7 +35,7 @@ named-told (Leftover p) = refl
 named-told TooHeavy = refl
 
 -- the numbers of a rule's refusals are those below 8
-pub of-a-rule : (x : Refusal) → ltb (number x) 8 ≡ true
+of-a-rule : (x : Refusal) → ltb (number x) 8 ≡ true
 of-a-rule TooLong = refl
 of-a-rule (Ended p) = refl
 of-a-rule (UnknownKind p) = refl
@@ -43,6 +43,13 @@ of-a-rule (WrongSort p) = refl
 of-a-rule (NoProposition p) = refl
 of-a-rule (Leftover p) = refl
 of-a-rule TooHeavy = refl
+
+-- what a call that hands a rule's refusal on, as `made` makes it, means by a number and a place; `own` is what it means by other numbers
+abbrev pub handedOn : {A : Type 0} → (Refusal → A) → A → ℕ → ℕ → A
+handedOn made own n p = pick (ltb n 8) (made (named n p)) own
+
+pub handed-on : {A : Type 0} (made : Refusal → A) (own : A) (x : Refusal) → handedOn made own (number x) (place x) ≡ made x
+handed-on made own x = rw (of-a-rule x) (ap made (named-told x))
 
 meant-told : (a : RuleAnswer) → meant (told a) ≡ a
 meant-told (Accepted k) = refl

@@ -5,33 +5,31 @@ use mathlib.Core.Bool.{Bool, true, false}
 use mathlib.Core.List.{List}
 use native.Mathlib.Omega.{arith}
 use lib.ListN.{length, take}
-use Rattle.tables.specs.Table.{Table, tableOf}
+use Rattle.tables.specs.Table.{Table}
 use Rattle.models.specs.Model.{Model}
 use Rattle.search.specs.declared.inner.Searched.{Searched}
 use Rattle.search.specs.declared.inner.Searched.the-variants.{Found, Nothing}
-use Rattle.models.specs.Stored.{modelWith}
-use Rattle.search.specs.Lent.{Cleared, Beyond, LentTable, LentLetters}
+use Rattle.search.specs.Lent.{Cleared, Beyond}
 use Rattle.search.specs.Passes.{view, Ended, Useful, Ready, Picked}
 use Rattle.search.specs.Told.{RunKept, Answers}
-use Rattle.search.proofs.Labels.{final-within}
-use Rattle.search.proofs.Rounds.{fair}
+use Rattle.tables.proofs.TableOf.{final-out}
+use Rattle.search.proofs.Given.{Given, modelFor, tableFor, fair}
 use Rattle.search.proofs.Answered.{left-at-start, right-nothing, right-found, bounded-nothing, bounded-found}
 
-module _ (labels : List ℕ) (n finals : ℕ) (letters : List ℕ) (initial : ℕ) (successors : List ℕ) (states : ℕ)
-    (table : LentTable labels n) (model : LentLetters letters states) where
+module _ (G : Given) where
   abbrev A : Table
-  A = tableOf labels n finals
+  A = tableFor G
 
   abbrev M : Model
-  M = modelWith states letters initial successors
+  M = modelFor G
 
   -- nothing found
   pub answers-nothing : (k c : ℕ) (m run : List ℕ) (b : Bool) → b ≡ false → Ended M A b k c m → Answers M A (Nothing c) run run
   answers-nothing k c m run b h e =
       let z : Ended M A false k c m = subst (λ (x : Bool). Ended M A x k c m) h e in
       record {
-        right = λ f s. right-nothing M A f (fair labels n finals letters initial successors states table model) s (model .small) k c m z;
-        bounded = bounded-nothing M A (fair labels n finals letters initial successors states table model) k c m z;
+        right = λ f s. right-nothing M A f (fair G) s (G .model .small) k c m z;
+        bounded = bounded-nothing M A (fair G) k c m z;
         run-kept = refl;
       }
 
@@ -48,14 +46,14 @@ module _ (labels : List ℕ) (n finals : ℕ) (letters : List ℕ) (initial : �
       count = c;
       marked = ended .marked;
       useful = x;
-      some = left-at-start M A (fair labels n finals letters initial successors states table model) k c m (ended .marked) (final-within labels n finals) (ended .some-final refl .0);
+      some = left-at-start M A (fair G) k c m (ended .marked) (λ q h. final-out (G .sizes .weight) (G .sizes .finals) q h .0) (ended .some-final refl .0);
     }
 
     -- found, with the run that was picked
     pub answers-found : (run run′ : List ℕ) → Picked M A k (take k run′) → Beyond k run run′ → k ≤ length run′ → Answers M A (Found k c) run run′
     answers-found run run′ p y l = record {
-      right = λ f s. right-found M A f (fair labels n finals letters initial successors states table model) s (model .small) k c m ended (take k run′) p;
-      bounded = bounded-found M A (fair labels n finals letters initial successors states table model) k c m ended (take k run′) (p .size);
+      right = λ f s. right-found M A f (fair G) s (G .model .small) k c m ended (take k run′) p;
+      bounded = bounded-found M A (fair G) k c m ended (take k run′) (p .size);
       run-kept = (l, y);
     }
 

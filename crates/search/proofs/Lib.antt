@@ -1,6 +1,7 @@
 pub mod Unique
 pub mod Way
 pub mod Level
+pub mod Given
 pub mod Tally
 pub mod Useful
 pub mod Pick
@@ -14,6 +15,7 @@ pub mod Labels
 pub mod Places
 pub mod Pushing
 pub mod Settling
+pub mod Backing
 pub mod Picking
 pub mod Finding
 pub mod Whole

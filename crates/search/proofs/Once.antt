@@ -3,16 +3,14 @@ use Prim.Native.Nat.{ℕ}
 use native.Mathlib.Omega.{arith}
 use mathlib.Core.Path.{_≡_, refl, sym, ap, ap₂, subst, _∙_}
 use mathlib.Core.List.{List}
-use lib.Dec.{eqb, ltb}
+use lib.Dec.{ltb}
 use lib.ListN.{length}
-use Rattle.rules.specs.declared.Refusal as rule-refusal
 use Rattle.rules.specs.Definition1.{Rule}
 use Rattle.rules.specs.Kinds.{pick}
 use Rattle.rules.specs.Weight.{weightOf}
-use Rattle.rules.specs.Refusals as rule-refusals
 use Rattle.rules.specs.Answer.{knownOf}
 use Rattle.rules.proofs.Accepting.{not-refused, accepted-once}
-use Rattle.rules.proofs.Once.{named, named-told, of-a-rule}
+use Rattle.rules.proofs.Once.{handedOn, handed-on}
 use Rattle.tables.specs.declared.TableAnswer.the-variants.{Tabled}
 use Rattle.tables.specs.Table.{tableOf}
 use Rattle.tables.specs.IsTable.{Words}
@@ -22,6 +20,7 @@ use Rattle.models.specs.declared.Refusal as model-refusal
 use Rattle.models.specs.declared.Refusal.the-variants as model-refusal-of
 use Rattle.models.specs.Model.{Model}
 use Rattle.models.specs.Answer as models
+use Rattle.models.proofs.Unique as models-once
 use Rattle.search.specs.declared.inner.Searched.the-variants.{Found, Nothing}
 use Rattle.search.specs.declared.SearchAnswer.{SearchAnswer}
 use Rattle.search.specs.declared.SearchAnswer.the-variants.{Answered, RuleRefused, ModelRefused, ShortSlice}
@@ -95,27 +94,12 @@ module _ (s g : List ℕ) (b a d : Slices) (ha : Words (a .table)) (hd : Words (
 
 -- ---- `told` loses nothing
 
-abbrev modelRefusal : ℕ → ℕ → SearchAnswer
-modelRefusal n p =
-    pick (eqb n 11) (ModelRefused model-refusal-of.TooMany)
-    (pick (eqb n 12) (ModelRefused (model-refusal-of.WrongKind p))
-    (pick (eqb n 13) (ModelRefused (model-refusal-of.CutShort p))
-    (pick (eqb n 14) (ModelRefused (model-refusal-of.LetterTooLarge p))
-    (pick (eqb n 15) (ModelRefused (model-refusal-of.WrongFlag p))
-    (pick (eqb n 16) (ModelRefused (model-refusal-of.NoSuchState p)) ShortSlice)))))
-
-abbrev refusalOf : ℕ → ℕ → SearchAnswer
-refusalOf n p = pick (ltb n 8) (RuleRefused (named n p)) (modelRefusal n p)
-
 abbrev meant : Result → SearchAnswer
 meant (answered k n (found r c)) = Answered (Found n c) k
 meant (answered k n (nothing c)) = Answered (Nothing c) k
-meant (refused n p) = refusalOf n p
+meant (refused n p) = handedOn RuleRefused (pick (ltb n 17) (ModelRefused (models-once.named n p)) ShortSlice) n p
 
-meant-rule : (x : rule-refusal.Refusal) → refusalOf (rule-refusals.number x) (rule-refusals.place x) ≡ RuleRefused x
-meant-rule x = rw (of-a-rule x) (ap RuleRefused (named-told x))
-
-meant-model : (x : model-refusal.Refusal) → refusalOf (models.number x) (models.place x) ≡ ModelRefused x
+meant-model : (x : model-refusal.Refusal) → meant (refused (models.number x) (models.place x)) ≡ ModelRefused x
 meant-model model-refusal-of.TooMany = refl
 meant-model (model-refusal-of.WrongKind p) = refl
 meant-model (model-refusal-of.CutShort p) = refl
@@ -126,7 +110,7 @@ meant-model (model-refusal-of.NoSuchState p) = refl
 meant-told : (x : SearchAnswer) (run : List ℕ) → meant (told x run) ≡ x
 meant-told (Answered (Found l c) k) run = refl
 meant-told (Answered (Nothing c) k) run = refl
-meant-told (RuleRefused x) run = meant-rule x
+meant-told (RuleRefused x) run = handed-on RuleRefused _ x
 meant-told (ModelRefused x) run = meant-model x
 meant-told ShortSlice run = refl
 

@@ -12,15 +12,15 @@ use lib.ListN.{length, getD, set, take, length-set}
 use lib.Seq.{take-suc-set, getD-set-other, length-take-le}
 use Rattle.bits.specs.Word.{bit, Lowest}
 use Rattle.bits.proofs.Laws.{bit-pow}
-use Rattle.tables.specs.Table.{Table, tableOf}
+use Rattle.tables.specs.Table.{Table}
+use Rattle.tables.proofs.TableOf.{edge-out}
 use Rattle.models.specs.Model.{Model}
-use Rattle.models.specs.Stored.{modelWith}
-use Rattle.search.specs.Lent.{Beyond, LentTable, LentLetters}
+use Rattle.search.specs.Lent.{Beyond}
 use Rattle.search.specs.Passes.{Members, Under, view, Left, Ready, Onward, CanNext, Picked}
-use Rattle.search.proofs.Members.{T-true, true-T, not-zero, lowest-is, lowest-least}
-use Rattle.search.proofs.Labels.{table-within}
-use Rattle.search.proofs.Rounds.{fair}
-use Rattle.search.proofs.Answered.{shortest}
+use Rattle.bits.proofs.Truths.{true-T, T-true}
+use Rattle.search.proofs.Members.{not-zero, lowest-is, lowest-least}
+use Rattle.search.proofs.Given.{Given, modelFor, tableFor, labelsFor, fair}
+use Rattle.search.proofs.Useful.{Nearest, nearest}
 use Rattle.search.proofs.Pick.{Chosen, Can, Held, begin, can-some, picked, done}
 use Rattle.search.proofs.Choice.{tested, can-of, of-can}
 
@@ -54,13 +54,12 @@ write-end {M} {A} {k} {held} {next} {level} {run} h l w =
     let z : k - level ≡ 0 = omega arith in
     subst (λ (i : ℕ). Picked M A k (take i run)) e (done M A (subst (λ (d : ℕ). Chosen M A k d (take level run) (λ t. bit next t) (λ q. T (bit held q))) z (w .chosen)))
 
-module _ (labels : List ℕ) (n finals : ℕ) (letters : List ℕ) (initial : ℕ) (successors : List ℕ) (states : ℕ)
-    (table : LentTable labels n) (model : LentLetters letters states) where
+module _ (G : Given) where
   abbrev A : Table
-  A = tableOf labels n finals
+  A = tableFor G
 
   abbrev M : Model
-  M = modelWith states letters initial successors
+  M = modelFor G
 
   module _ (k : ℕ) (m u : List ℕ) (x : Ready M A k m u) (run : List ℕ) (long : k ≤ length run) (held next level : ℕ) (lt : level < k) (w : Written M A k run held next level) where
     abbrev Q : ℕ → Type 0
@@ -72,6 +71,9 @@ module _ (labels : List ℕ) (n finals : ℕ) (letters : List ℕ) (initial : �
     abbrev d : ℕ
     d = k - (level + 1)
 
+    near : Nearest M A k (view m)
+    near = nearest M A (fair G) k (x .count) m (x .marked)
+
     size : length (take level run) ≡ level
     size = length-take-le level run (omega arith)
 
@@ -79,13 +81,12 @@ module _ (labels : List ℕ) (n finals : ℕ) (letters : List ℕ) (initial : �
     chosen = let e : k - level ≡ suc d = omega arith in subst (λ (i : ℕ). Chosen M A k i (take level run) ok Q) e (w .chosen)
 
     abbrev CN : ℕ → Type 0
-    CN = CanNext (tableOf labels n 0) letters next Q m u (level + 1)
+    CN = CanNext (labelsFor G) (G .letters) next Q m u (level + 1)
 
     -- what the code tests, and that the state can be next, are one
-    can-next : (t : ℕ) → Can M A ok Q d t → Under CN states t
+    can-next : (t : ℕ) → Can M A ok Q d t → Under CN (G .sizes .states) t
     can-next t y =
-        let z = of-can M A (fair labels n finals letters initial successors states table model) k (view m) (x .marked .levels)
-        (shortest M A (fair labels n finals letters initial successors states table model) k (x .count) m (x .marked)) (view u) (x .useful) d (take level run) ok Q chosen t y in
+        let z = of-can M A (fair G) k (view m) near (view u) (x .useful) d (take level run) ok Q chosen t y in
         record {
           below = y .state;
           is = (
@@ -94,22 +95,21 @@ module _ (labels : List ℕ) (n finals : ℕ) (letters : List ℕ) (initial : �
               y .new,
               (
                 record { from = y .old; held = y .held; reads = y .reads },
-                record { below = table-within labels n finals (y .old) (getD letters t 0) (y .new) (y .reads); is = record { on = z .0 ∙ ap suc size ∙ sym (add-one level); useful = z .1 } },
+                record { below = edge-out (G .labels) (G .sizes .weight) (G .sizes .finals) (y .old) (getD (G .letters) t 0) (y .new) (y .reads) .1; is = record { on = z .0 ∙ ap suc size ∙ sym (add-one level); useful = z .1 } },
               ),
             ),
           );
         }
 
-    next-can : (t : ℕ) → Under CN states t → Can M A ok Q d t
+    next-can : (t : ℕ) → Under CN (G .sizes .states) t → Can M A ok Q d t
     next-can t y =
         let p = y .is .1 .0 in
         let i = y .is .1 .1 .0 in
         let v = y .is .1 .1 .1 .is in
-        can-of M A (fair labels n finals letters initial successors states table model) k (view m) (x .marked .levels)
-        (shortest M A (fair labels n finals letters initial successors states table model) k (x .count) m (x .marked)) (view u) (x .useful) d (take level run) ok Q chosen
+        can-of M A (fair G) k (view m) near (view u) (x .useful) d (take level run) ok Q chosen
         t (i .from) p (y .below) (y .is .0) (i .held) (i .reads) (v .on ∙ add-one level ∙ ap suc (sym size)) (v .useful)
 
-    module _ (mask : ℕ) (choices : Members mask (Under CN states)) where
+    module _ (mask : ℕ) (choices : Members mask (Under CN (G .sizes .states))) where
       pub mask-some : 0 < mask
       mask-some =
           let y = can-some M A chosen in
@@ -117,18 +117,18 @@ module _ (labels : List ℕ) (n finals : ℕ) (letters : List ℕ) (initial : �
           omega arith
 
       module _ (s : ℕ) (low : Lowest 64 mask s) where
-        pub state-below : s < states
+        pub state-below : s < G .sizes .states
         state-below = lowest-is low choices .below
 
-        pub write-turn : (after : ℕ) → Members after (Onward (tableOf labels n 0) letters Q m u (level + 1) s) → Written M A k (set run level s) after (getD successors s 0) (level + 1)
+        pub write-turn : (after : ℕ) → Members after (Onward (labelsFor G) (G .letters) Q m u (level + 1) s) → Written M A k (set run level s) after (getD (G .successors) s 0) (level + 1)
         write-turn after onward =
             record {
-              chosen = subst (λ (r : List ℕ). Chosen M A k d r (λ t. bit (getD successors s 0) t) (λ q. T (bit after q))) (sym written)
+              chosen = subst (λ (r : List ℕ). Chosen M A k d r (λ t. bit (getD (G .successors) s 0) t) (λ q. T (bit after q))) (sym written)
                   (chosen-same (λ q. T (bit after q)) (picked M A k d (take level run) ok Q chosen s can (λ t y. lowest-least low choices t (can-next t y)))
                   (λ p h. onward .has p (there p h)) (λ p t. back p (onward .holds p t)));
             }
           where
-            under : Under CN states s
+            under : Under CN (G .sizes .states) s
             under = lowest-is low choices
 
             can : Can M A ok Q d s
@@ -137,20 +137,19 @@ module _ (labels : List ℕ) (n finals : ℕ) (letters : List ℕ) (initial : �
             written : take (level + 1) (set run level s) ≡ take level run ++ s ∷ []
             written = ap (λ (i : ℕ). take i (set run level s)) (add-one level) ∙ take-suc-set run level s (omega arith)
 
-            test : (q p : ℕ) → Q q → T (A .edge q (getD letters s 0) p) → (((view m s p ≡ suc (length (take level run))) × (view u s p ≢ 0)) → Left M A (M .next s) d p) × (Left M A (M .next s) d p → ((view m s p ≡ suc (length (take level run))) × (view u s p ≢ 0)))
+            test : (q p : ℕ) → Q q → T (A .edge q (getD (G .letters) s 0) p) → (((view m s p ≡ suc (length (take level run))) × (view u s p ≢ 0)) → Left M A (M .next s) d p) × (Left M A (M .next s) d p → ((view m s p ≡ suc (length (take level run))) × (view u s p ≢ 0)))
             test q p h e =
-                tested M A (fair labels n finals letters initial successors states table model) k (view m) (x .marked .levels)
-                (shortest M A (fair labels n finals letters initial successors states table model) k (x .count) m (x .marked)) (view u) (x .useful) d (take level run) ok Q chosen
+                tested M A (fair G) k (view m) near (view u) (x .useful) d (take level run) ok Q chosen
                 s q p (under .below) (under .is .0) h e
 
-            there : (p : ℕ) → Held M A Q d s p → Onward (tableOf labels n 0) letters Q m u (level + 1) s p
+            there : (p : ℕ) → Held M A Q d s p → Onward (labelsFor G) (G .letters) Q m u (level + 1) s p
             there p h =
                 let z = test (h .old) p (h .held) (h .reads) .1 (h .on) in (
                   record { from = h .old; held = h .held; reads = h .reads },
-                  record { below = table-within labels n finals (h .old) (getD letters s 0) p (h .reads); is = record { on = z .0 ∙ ap suc size ∙ sym (add-one level); useful = z .1 } },
+                  record { below = edge-out (G .labels) (G .sizes .weight) (G .sizes .finals) (h .old) (getD (G .letters) s 0) p (h .reads) .1; is = record { on = z .0 ∙ ap suc size ∙ sym (add-one level); useful = z .1 } },
                 )
 
-            back : (p : ℕ) → Onward (tableOf labels n 0) letters Q m u (level + 1) s p → Held M A Q d s p
+            back : (p : ℕ) → Onward (labelsFor G) (G .letters) Q m u (level + 1) s p → Held M A Q d s p
             back p y =
                 record {
                   old = y .0 .from;

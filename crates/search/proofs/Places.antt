@@ -7,16 +7,17 @@ use native.Mathlib.Decide.{ℕ-discrete}
 use native.Mathlib.Nat.{lt-of-le-of-lt}
 use native.Mathlib.Omega.{arith}
 use native.Mathlib.Numerals.{add-one}
-use borrow.Author.Tests.{lt-ltb, ltb-true}
 use lib.Bits.{bitAnd, and-le-l}
-use lib.Dec.{ltb, eqb}
+use lib.Dec.{eqb}
 use lib.ListN.{length, getD, set, length-set}
 use lib.Seq.{getD-set-same, getD-set-other}
-use Rattle.bits.specs.Word.{bit}
 use Rattle.bits.specs.Says.{Says}
+use Rattle.tables.specs.Table.{finalOf}
+use Rattle.tables.proofs.TableOf.{final-out, final-in}
 use Rattle.search.specs.Lent.{Cleared}
-use Rattle.search.specs.Passes.{Members, OnLevel, Step, FinalIn, finalOf}
-use Rattle.search.proofs.Members.{T-true, true-T, T-and, and-T, says-same, says-any, members-and, members-bits}
+use Rattle.search.specs.Passes.{Members, OnLevel, Step, FinalIn}
+use Rattle.bits.proofs.Sayings.{says-map}
+use Rattle.search.proofs.Members.{says-any, members-and, members-bits}
 use Rattle.search.proofs.Steps.{step-one}
 
 pub mark-one : (j : ℕ) (a : List ℕ) (at : ℕ) → at < 4096 → 4096 ≤ length a → getD a at 0 ≡ 0 → Step j a (set a at (j + 1)) (λ i. i ≡ at) 1
@@ -42,7 +43,6 @@ cleared-end {a} {b} {k} c n h l = let e : k ≡ n = omega arith in subst (λ (y 
 pub final-says : {w : ℕ} (n finals j s : ℕ) (m : List ℕ) → w < 2 ^ 64 → Members w (OnLevel m n j s)
     → Says (not (eqb (bitAnd w finals) 0)) (FinalIn (finalOf n finals) m j s)
 final-says {w} n finals j s m h x =
-    says-same (says-any (lt-of-le-of-lt (and-le-l w finals) h) (members-and x (members-bits finals)))
-    (λ y. record { state = y .0; on = y .1 .0 .is; is-final = and-T (ltb (y .0) n) (bit finals (y .0)) (true-T (lt-ltb (y .0) n (y .1 .0 .below))) (y .1 .1) })
-    (λ y. let b = T-and (ltb (y .state) n) (bit finals (y .state)) (y .is-final) in
-    (y .state, (record { below = ltb-true (y .state) n (T-true (ltb (y .state) n) (b .0)); is = y .on }, b .1)))
+    says-map (λ y. record { state = y .0; on = y .1 .0 .is; is-final = final-in n finals (y .0) (y .1 .0 .below) (y .1 .1) })
+    (λ y. let b = final-out n finals (y .state) (y .is-final) in (y .state, (record { below = b .0; is = y .on }, b .1)))
+    (says-any (lt-of-le-of-lt (and-le-l w finals) h) (members-and x (members-bits finals)))

@@ -9,7 +9,7 @@ use Rattle.bits.specs.Word.{bit}
 use Rattle.bits.proofs.Laws.{bit-pow}
 use Rattle.tables.specs.Table.{Table}
 use Rattle.search.specs.Passes.{Members, Into, OnLevel, Step, Below, At, Along, FromRow}
-use Rattle.search.proofs.Members.{T-true, true-T}
+use Rattle.bits.proofs.Truths.{true-T, T-true}
 use Rattle.search.proofs.Steps.{step-none, step-same, same-level, below-map}
 
 pub at-map : {P Q : ℕ → Type 0} {t p i : ℕ} → (P p → Q p) → At P t p i → At Q t p i

@@ -5,12 +5,12 @@ use mathlib.Core.Bool.{Bool}
 use mathlib.Core.Logic.{_≢_, _↔_}
 use mathlib.Core.List.{List, [], _∷_}
 use native.Mathlib.Omega.{arith}
-use native.Mathlib.Decide.{ℕ-discrete}
+use native.Mathlib.Decide.{ℕ-discrete, decLe}
 use lib.Dec.{T}
 use lib.ListN.{length}
 use Rattle.tables.specs.Table.{Table, Goes}
 use Rattle.models.specs.Model.{Model, Walk, spelled}
-use Rattle.search.specs.Passes.{Way, onto, Level, Left, Useful}
+use Rattle.search.specs.Passes.{Way, onto, Level, view, Marked, Left, Useful}
 use Rattle.search.proofs.Level.{Fair, Link, ends}
 
 -- what is left, as a row of states
@@ -33,17 +33,36 @@ pub record Back (M : Model) (A : Table) (m : ℕ → ℕ → ℕ) (j : ℕ) (u v
       → (t : ℕ) × (p : ℕ) × (t < 64) × (p < 64) × Link M A s q t p × (m t p ≡ suc j) × (u t p ≢ 0)
   pub complete : (s q t p : ℕ) → s < 64 → q < 64 → m s q ≡ j → Link M A s q t p → m t p ≡ suc j → u t p ≢ 0 → v s q ≢ 0
 
+-- marks of k levels, where no way to a final is shorter than k
+pub record Nearest (M : Model) (A : Table) (k : ℕ) (m : ℕ → ℕ → ℕ) : Type 0 where
+  pub levels : Level M A k m
+  pub shortest : (i s q : ℕ) → Way M A i s q → T (A .final q) → k ≤ i
+
+-- such are the marks that the forward pass ends with
+pub nearest : (M : Model) (A : Table) → Fair M A → (k c : ℕ) (m : List ℕ) → Marked M A k c m → Nearest M A k (view m)
+nearest M A fair k c m x = record { levels = x .levels; shortest = λ i s q w f. go i s q w f (decLe k i) }
+  where
+    go : (i s q : ℕ) → Way M A i s q → T (A .final q) → Dec (k ≤ i) → k ≤ i
+    go i s q w f (yes h) = h
+    go i s q w f (no h) =
+        let n = ends M A fair w in
+        let y : (view m s q ≢ 0) × (view m s q ≤ i) = x .levels .complete w (omega arith) in
+        let z : view m s q ≡ k = x .last-only s q (omega (arith, fair .few)) (omega (arith, fair .small)) (y .0) f in
+        absurd (omega arith)
+
 module _ (M : Model) (A : Table) (fair : Fair M A)
-    (k : ℕ) (m : ℕ → ℕ → ℕ) (l : Level M A k m)
-    (shortest : (i s q : ℕ) → Way M A i s q → T (A .final q) → k ≤ i) where
+    (k : ℕ) (m : ℕ → ℕ → ℕ) (x : Nearest M A k m) where
+  l : Level M A k m
+  l = x .levels
+
   -- on a way of k states to a final every pair is marked by its place
   pub placed : {i s q : ℕ} → Way M A i s q → (d : ℕ) → Left M A (M .next s) d q → k ≡ i + d → m s q ≡ i
   placed {i} {s} {q} w d h e =
       let n = ends M A fair w in
       let c : (m s q ≢ 0) × (m s q ≤ i) = l .complete w (omega arith) in
       let v : Way M A (m s q) s q = l .sound s q (omega arith) (omega arith) (c .0) in
-      let x = through M A d (m s q) v h (m s q + d) refl in
-      let y : k ≤ m s q + d = shortest (m s q + d) (x .0) (x .1) (x .2) (x .3) in
+      let f = through M A d (m s q) v h (m s q + d) refl in
+      let y : k ≤ m s q + d = x .shortest (m s q + d) (f .0) (f .1) (f .2) (f .3) in
       omega arith
 
   pub back-useful : (j : ℕ) → 1 ≤ j → j < k → (u v : ℕ → ℕ → ℕ) → Back M A m j u v → Useful M A k m (suc j) u → Useful M A k m j v

@@ -1,10 +1,10 @@
 -- What the passes of the search are lent, and what each of them comes to. Assumes nothing: these are definitions.
 use Prim.Native.Nat.{ℕ, zero, suc, _+_, _*_, _≤_, _<_}
 use mathlib.Core.Path.{_≡_}
-use mathlib.Core.Bool.{Bool, true, false, _&&_}
+use mathlib.Core.Bool.{Bool, true, false}
 use mathlib.Core.Logic.{_≢_, _⊎_, _↔_}
 use mathlib.Core.List.{List}
-use lib.Dec.{T, ltb}
+use lib.Dec.{T}
 use lib.ListN.{length, getD}
 use Rattle.bits.specs.Word.{bit, insert}
 use Rattle.tables.specs.Table.{Table, Accepts}
@@ -101,10 +101,6 @@ pub record Level (M : Model) (A : Table) (j : ℕ) (m : ℕ → ℕ → ℕ) : T
   pub low : (s q : ℕ) → s < 64 → q < 64 → m s q ≤ j
   pub sound : (s q : ℕ) → s < 64 → q < 64 → m s q ≢ 0 → Way M A (m s q) s q
   pub complete : {i s q : ℕ} → Way M A i s q → i ≤ j → (m s q ≢ 0) × (m s q ≤ i)
-
--- the final states of a table of n states
-abbrev pub finalOf : ℕ → ℕ → ℕ → Bool
-finalOf n finals q = ltb q n && bit finals q
 
 -- a table state of row s that is on level j and final
 pub record FinalIn (final : ℕ → Bool) (m : List ℕ) (j s : ℕ) : Type 0 where

@@ -74,7 +74,7 @@ module _ (base mid fa fb : ℕ) (a b : Rule) (e : mid ≡ base + weightOf a) (ro
   then-finals-on on = record { ends = λ q l. (λ t. out q l (has-or fa fb q .0 t), λ u. has-or fa fb q .1 (back q l (then-parts q u))) }
     where
       out : (q : ℕ) → q < 64 → Has fa q ⊎ Has fb q → UpF base (auto (two Then a b) .final) q
-      out q l (inl t) = from-a q (b-first .0 (true-T (bit fb mid) on)) (ha .ends q l .0 t)
+      out q l (inl t) = from-a q (b-first .0 (true-T on)) (ha .ends q l .0 t)
       out q l (inr t) = from-b q (hb .ends q l .0 t)
 
       back : (q : ℕ) → q < 64 → (auto b .final 0 × UpF base (auto a .final) q) ⊎ UpF mid (auto b .final) q → Has fa q ⊎ Has fb q
@@ -85,7 +85,7 @@ module _ (base mid fa fb : ℕ) (a b : Rule) (e : mid ≡ base + weightOf a) (ro
   then-finals-off off = record { ends = λ q l. (λ t. from-b q (hb .ends q l .0 t), λ u. back q l (then-parts q u)) }
     where
       back : (q : ℕ) → q < 64 → (auto b .final 0 × UpF base (auto a .final) q) ⊎ UpF mid (auto b .final) q → Has fb q
-      back q l (inl u) = absurd (false-no (bit fb mid) off (b-first .1 (u .0)))
+      back q l (inl u) = absurd (false-no off (b-first .1 (u .0)))
       back q l (inr u) = hb .ends q l .1 u
 
 -- `:`: b's finals
@@ -138,7 +138,7 @@ module _ (base mid fa fb : ℕ) (a b : Rule) (e : mid ≡ base + 1 + weightOf a)
     where
       out : (q : ℕ) → q < 64 → Has (bitOr fa fb) q ⊎ (q ≡ base) → UpF base (auto (two Either a b) .final) q
       out q l (inl t) = both-sets q l t
-      out q l (inr d) = of-new q d (⊎-map (λ h. a-0 .0 (true-T (bit fa (base + 1)) h)) (λ h. b-0 .0 (true-T (bit fb mid) h)) on)
+      out q l (inr d) = of-new q d (⊎-map (λ h. a-0 .0 (true-T h)) (λ h. b-0 .0 (true-T h)) on)
 
       back : (q : ℕ) → q < 64 → UpF (base + 1) (auto a .final) q ⊎ UpF mid (auto b .final) q ⊎ ((q ≡ base) × (auto a .final 0 ⊎ auto b .final 0)) → Has (bitOr fa fb) q ⊎ (q ≡ base)
       back q l (inl u) = inl (has-or fa fb q .1 (inl (ha .ends q l .1 u)))
@@ -149,8 +149,8 @@ module _ (base mid fa fb : ℕ) (a b : Rule) (e : mid ≡ base + 1 + weightOf a)
   either-finals-off na nb = record { ends = λ q l. (both-sets q l, λ u. back q l (either-parts q u)) }
     where
       none : auto a .final 0 ⊎ auto b .final 0 → ⊥
-      none (inl f) = false-no (bit fa (base + 1)) na (a-0 .1 f)
-      none (inr f) = false-no (bit fb mid) nb (b-0 .1 f)
+      none (inl f) = false-no na (a-0 .1 f)
+      none (inr f) = false-no nb (b-0 .1 f)
 
       back : (q : ℕ) → q < 64 → UpF (base + 1) (auto a .final) q ⊎ UpF mid (auto b .final) q ⊎ ((q ≡ base) × (auto a .final 0 ⊎ auto b .final 0)) → Has (bitOr fa fb) q
       back q l (inl u) = has-or fa fb q .1 (inl (ha .ends q l .1 u))
@@ -202,8 +202,8 @@ module _ (base c d m n f fa fb : ℕ) (a b : Rule) (em : m ≡ weightOf a) (en :
   both-finals = record { ends = λ q l. (λ t. out q l (lt-or-ge q base) (lt-or-ge q (base + m * n)) t, λ u. let z = pair-in q u in pairs q (z .low) (z .high) .1 (z .first, z .second)) }
     where
       out : (q : ℕ) → q < 64 → (q < base) ⊎ (base ≤ q) → (q < base + m * n) ⊎ (base + m * n ≤ q) → Has f q → UpF base (auto (two Both a b) .final) q
-      out q l (inl h) k t = absurd (false-no (bit f q) (outside q l (inl h)) t)
-      out q l (inr h) (inr k) t = absurd (false-no (bit f q) (outside q l (inr k)) t)
+      out q l (inl h) k t = absurd (false-no (outside q l (inl h)) t)
+      out q l (inr h) (inr k) t = absurd (false-no (outside q l (inr k)) t)
       out q l (inr h) (inl k) t = let z = pairs q h k .0 t in pair-out q h (z .0) (z .1)
 
 -- `[+]` and `[*]`

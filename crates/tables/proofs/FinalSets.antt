@@ -29,7 +29,7 @@ module _ (f k : ℕ) (small : k < 64) where
   raised-low q l = bit-mod 64 (f * 2 ^ k) q (omega arith) ∙ bit-shl-low f k q l
 
   out : (q : ℕ) → q < 64 → (q < k) ⊎ (k ≤ q) → T (bit ((f * 2 ^ k) % 2 ^ 64) q) → UpF k (λ j. T (bit f j)) q
-  out q l (inl h) t = absurd (false-no _ (raised-low q h) t)
+  out q l (inl h) t = absurd (false-no (raised-low q h) t)
   out q l (inr h) t =
       let e : q ≡ k + (q - k) = omega arith in
       UpF.up (q - k) e (rw (raised-bit (q - k) (omega arith)) at (rw e at t))

@@ -5,6 +5,7 @@ pub mod Eithers
 pub mod Boths
 pub mod Repetitions
 pub mod Language
+pub mod TableOf
 pub mod Serving
 pub mod Labels
 pub mod Places

@@ -4,17 +4,13 @@ use native.Mathlib.Omega.{arith}
 use native.Mathlib.Decide.{decLt}
 use mathlib.Core.Path.{_≡_, refl, sym, ap, ap₂, subst, _∙_}
 use mathlib.Core.List.{List}
-use lib.Dec.{ltb}
 use lib.ListN.{getD}
 use lib.Seq.{ext-getD}
 use Rattle.rules.specs.declared.Known.{Known}
-use Rattle.rules.specs.declared.Refusal.{Refusal}
 use Rattle.rules.specs.Definition1.{Rule}
-use Rattle.rules.specs.Kinds.{pick}
-use Rattle.rules.specs.Refusals.{number, place}
 use Rattle.rules.specs.Answer.{AcceptedAs, knownOf}
 use Rattle.rules.proofs.Accepting.{not-refused, accepted-once}
-use Rattle.rules.proofs.Once.{named, named-told, of-a-rule}
+use Rattle.rules.proofs.Once.{handedOn, handed-on}
 use Rattle.tables.specs.declared.TableAnswer.{TableAnswer}
 use Rattle.tables.specs.declared.TableAnswer.the-variants.{Tabled, RuleRefused, ShortTable}
 use Rattle.tables.specs.Table.{tableOf}
@@ -54,19 +50,13 @@ module _ (s t : List ℕ) where
     one-result (the-table a l lf i p) (the-table a′ l′ lg j q) = same-table _ _ _ _ (accepted-once s _ _ a a′) lf lg i j p q
 
 -- the answer that a result tells of: `told` loses nothing
-abbrev refusalOf : ℕ → ℕ → TableAnswer
-refusalOf n p = pick (ltb n 8) (RuleRefused (named n p)) ShortTable
-
 abbrev meant : Result → TableAnswer
 meant (tabled k f) = Tabled k f
-meant (refused n p) = refusalOf n p
-
-meant-refusal : (x : Refusal) → refusalOf (number x) (place x) ≡ RuleRefused x
-meant-refusal x = rw (of-a-rule x) (ap RuleRefused (named-told x))
+meant (refused n p) = handedOn RuleRefused ShortTable n p
 
 meant-told : (a : TableAnswer) → meant (told a) ≡ a
 meant-told (Tabled k f) = refl
-meant-told (RuleRefused x) = meant-refusal x
+meant-told (RuleRefused x) = handed-on RuleRefused _ x
 meant-told ShortTable = refl
 
 -- no second answer and no second slice fit the promise of `build`

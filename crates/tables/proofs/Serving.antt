@@ -3,9 +3,8 @@ use Prim.Native.Nat.{ℕ, _+_, _*_, _^_, _<_, _≤_}
 use native.Mathlib.Omega.{arith}
 use mathlib.Core.Path.{_≡_, refl}
 use mathlib.Core.Logic.{_⊎_, inl, inr}
-use mathlib.Core.Bool.{_&&_}
 use mathlib.Core.List.{List, [], _∷_}
-use lib.Dec.{T, ltb, ltb→lt, lt→ltb}
+use lib.Dec.{T}
 use Rattle.bits.specs.Word.{bit}
 use Rattle.bits.proofs.Laws.{ext, bit-none, bit-above, lt-or-ge}
 use Rattle.rules.specs.Definition1.{Rule}
@@ -15,7 +14,8 @@ use Rattle.tables.specs.Build.{auto}
 use Rattle.tables.specs.Table.{Table, cell, tableOf, Goes}
 use Rattle.tables.specs.IsTable.{IsTable, Words}
 use Rattle.tables.specs.Promise.{Letters, Serves}
-use Rattle.bits.proofs.Truths.{and-T, same-truth, no-false, false-no}
+use Rattle.bits.proofs.Truths.{same-truth, no-false, false-no}
+use Rattle.tables.proofs.TableOf.{edge-out, edge-in, final-out, final-in}
 use Rattle.tables.proofs.Lang.{Acc, Edge}
 use Rattle.tables.proofs.Language.{good, sound, complete, size-weight}
 
@@ -54,36 +54,19 @@ module _ (r : Rule) (t u : List ℕ) (f g : ℕ) (is : IsTable r t f) (js : IsTa
   one-finals hf hg =
       ext 64 f g hf hg (λ q h. same-truth (bit f q) (bit g q) (λ a. js .ends q h .1 (is .ends q h .0 a)) (λ a. is .ends q h .1 (js .ends q h .0 a)))
 
--- a table's edge and final state, taken apart
-module _ (t : List ℕ) (n f : ℕ) where
-  pub edge-out : (p x q : ℕ) → T (tableOf t n f .edge p x q) → (p < n) × (q < n) × T (bit (cell t p q) x)
-  edge-out p x q s =
-      let h = and-T (ltb p n) (ltb q n && bit (cell t p q) x) .0 s in let k = and-T (ltb q n) (bit (cell t p q) x) .0 (h .1) in
-      (ltb→lt p n (h .0), ltb→lt q n (k .0), k .1)
-
-  pub edge-in : (p x q : ℕ) → p < n → q < n → T (bit (cell t p q) x) → T (tableOf t n f .edge p x q)
-  edge-in p x q hp hq s =
-      and-T (ltb p n) (ltb q n && bit (cell t p q) x) .1 (lt→ltb p n hp, and-T (ltb q n) (bit (cell t p q) x) .1 (lt→ltb q n hq, s))
-
-  pub final-out : (q : ℕ) → T (tableOf t n f .final q) → (q < n) × T (bit f q)
-  final-out q s = let h = and-T (ltb q n) (bit f q) .0 s in (ltb→lt q n (h .0), h .1)
-
-  pub final-in : (q : ℕ) → q < n → T (bit f q) → T (tableOf t n f .final q)
-  final-in q h s = and-T (ltb q n) (bit f q) .1 (lt→ltb q n h, s)
-
 module _ (r : Rule) (t : List ℕ) (f : ℕ) (is : IsTable r t f) (small : weightOf r ≤ 64) where
   abbrev A : Table
   A = tableOf t (weightOf r) f
 
   -- what the table accepts from a state, the rule's automaton accepts there, and back
   goes-acc : (p q : ℕ) (w : List ℕ) → Letters w → Goes A p w q → T (A .final q) → Acc (auto r) p w
-  goes-acc p q [] h e s = let k = final-out t (weightOf r) f q s in rw e (is .ends q (omega arith) .0 (k .1))
+  goes-acc p q [] h e s = let k = final-out (weightOf r) f q s in rw e (is .ends q (omega arith) .0 (k .1))
   goes-acc p q (x ∷ w) h g s =
       let k = edge-out t (weightOf r) f p x (g .0) (g .1) in
       (g .0, is .label p (g .0) x (omega arith) (omega arith) (h .0) .0 (k .2), goes-acc (g .0) q w (h .1) (g .2) s)
 
   acc-goes : (p : ℕ) (w : List ℕ) → Letters w → Acc (auto r) p w → (q : ℕ) × Goes A p w q × T (A .final q)
-  acc-goes p [] h a = let l = final-inside r p a in (p, refl, final-in t (weightOf r) f p l (is .ends p (omega arith) .1 a))
+  acc-goes p [] h a = let l = final-inside r p a in (p, refl, final-in (weightOf r) f p l (is .ends p (omega arith) .1 a))
   acc-goes p (x ∷ w) h (m, s, a) =
       let e = step-inside r p x m s in let g = acc-goes m w (h .1) a in
       (g .0, (m, edge-in t (weightOf r) f p x m (e .lo) (e .hi) (is .label p m x (omega arith) (omega arith) (h .0) .1 s), g .1), g .2)
@@ -93,7 +76,7 @@ module _ (r : Rule) (t : List ℕ) (f : ℕ) (is : IsTable r t f) (small : weigh
     where
       go : (x < 64) ⊎ (64 ≤ x) → p < weightOf r → T (bit (cell t p 0) x) → ⊥
       go (inl l) k b = no-label r t f is p 0 x (omega arith) (omega arith) l (inr (inr refl)) b
-      go (inr l) k b = false-no (bit (cell t p 0) x) (bit-above 64 (cell t p 0) x (words (64 * p + 0)) l) b
+      go (inr l) k b = false-no (bit-above 64 (cell t p 0) x (words (64 * p + 0)) l) b
 
   -- the table of a rule that weighs at most 64 serves it
   pub serves : Words t → Serves (tableOf t (weightOf r) f) r

@@ -76,7 +76,7 @@ module _ (t t₁ : List ℕ) (base : ℕ) (clean : Clean t base) (room : base + 
       go : (0 < q) ⊎ (q ≤ 0) → Has (cell t₁ (base + p) (base + q)) x ↔ PlusStep (letterA (holds yea)) p x q
       go (inl k) =
           by-cell (cell t₁ (base + p) (base + q)) (all 64) x (put .new (base + p) (base + q) (omega arith))
-          (λ h. any-in p x q hp (omega arith), λ s. true-T (bit (all 64) x) (bit-all 64 x ∙ lt-ltb x 64 hx))
+          (λ h. any-in p x q hp (omega arith), λ s. true-T (bit-all 64 x ∙ lt-ltb x 64 hx))
       go (inr k) =
           by-none (cell t₁ (base + p) (base + q)) x
           (put .old (base + p) (base + q) (omega arith) (λ i. omega arith) ∙ clean .none (base + p) (base + q) (omega arith) (omega arith) (omega arith) (omega arith))

@@ -17,12 +17,16 @@ pub record Table : Type 0 where
 abbrev pub cell : List ℕ → ℕ → ℕ → ℕ
 cell t p q = getD t (64 * p + q) 0
 
+-- the final states of a table of n states, where the set of finals is known
+abbrev pub finalOf : ℕ → ℕ → ℕ → Bool
+finalOf n finals q = ltb q n && bit finals q
+
 -- the table of n states that the words t and the set of finals are
 abbrev pub tableOf : List ℕ → ℕ → ℕ → Table
 tableOf t n finals = record {
   weight = n;
   edge = λ p x q. ltb p n && (ltb q n && bit (cell t p q) x);
-  final = λ q. ltb q n && bit finals q;
+  final = finalOf n finals;
 }
 
 -- the table can go from state p to state q over the word

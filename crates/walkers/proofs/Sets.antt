@@ -3,14 +3,14 @@ use Prim.Native.Nat.{ℕ, _^_, _<_}
 use native.Mathlib.Decide.{ℕ-discrete}
 use mathlib.Core.Path.{_≡_, refl, sym, ap, _∙_}
 use mathlib.Core.Logic.{_⊎_, inl, inr, _↔_}
-use mathlib.Core.Bool.{Bool, true, false, not, _&&_, _||_}
+use mathlib.Core.Bool.{Bool, true, false, not, _&&_, _||_, and-true, or-false}
 use mathlib.Core.List.{List}
 use lib.Bits.{bitAnd, bitOr, or-lt}
 use lib.Dec.{T, eqb}
 use lib.Pow.{pow-pos}
 use borrow.Author.Tests.{ne-eqb}
 use Rattle.bits.specs.Word.{bit, word, any, remove}
-use Rattle.bits.proofs.Laws.{bit-or, bit-zero, bit-word, bit-remove, word-lt, word-unique, any-intro, any-elim, any-none, any-meet, and-true, or-false}
+use Rattle.bits.proofs.Laws.{bit-or, bit-zero, bit-word, bit-remove, word-lt, word-unique, any-intro, any-elim, any-none, any-meet}
 use Rattle.tables.specs.Table.{cell}
 use Rattle.bits.proofs.Truths.{and-T, or-T, true-T, T-true, same-truth}
 use Rattle.walkers.specs.Steps.{rowOf, advanced, meets}
@@ -18,8 +18,8 @@ use Rattle.walkers.specs.Steps.{rowOf, advanced, meets}
 -- some k below n, as a fact
 pub any-T : (n : ℕ) (f : ℕ → Bool) → T (any n f) ↔ ((k : ℕ) × (k < n) × T (f k))
 any-T n f = (
-  λ t. let h = any-elim n f (T-true (any n f) t) in (h .0, h .1, true-T (f (h .0)) (h .2)),
-  λ h. true-T (any n f) (any-intro n f (h .0) (h .1) (T-true (f (h .0)) (h .2))),
+  λ t. let h = any-elim n f (T-true (any n f) t) in (h .0, h .1, true-T (h .2)),
+  λ h. true-T (any-intro n f (h .0) (h .1) (T-true (f (h .0)) (h .2))),
 )
 
 -- one member taken out, and what it gives put beside the others
@@ -45,7 +45,7 @@ module _ (n rest k : ℕ) (l : ℕ → Bool) (h : k < n) (on : bit rest k ≡ tr
           let z = rw (bit-remove n rest k p h hp) at (and-T (bit (remove n rest k) p) (l p) .0 s .0) in and-T (bit rest p) (not (eqb p k)) .0 z .0
 
       go : T (l k) ⊎ T (any n left) → T (any n (λ p. bit rest p && l p))
-      go (inl s) = any-T n (λ p. bit rest p && l p) .1 (k, h, and-T (bit rest k) (l k) .1 (true-T (bit rest k) on, s))
+      go (inl s) = any-T n (λ p. bit rest p && l p) .1 (k, h, and-T (bit rest k) (l k) .1 (true-T on, s))
       go (inr s) =
           let w = any-T n left .0 s in
           any-T n (λ p. bit rest p && l p) .1 (w .0, w .1, and-T (bit rest (w .0)) (l (w .0)) .1 (back (w .0) (w .1) (w .2), and-T (bit (remove n rest k) (w .0)) (l (w .0)) .0 (w .2) .1))

@@ -45,7 +45,7 @@ only-0 zero s = refl
 only-0 (suc p) s = absurd (rw (bit-suc 1 p, bit-zero p) at s)
 
 has-0 : T (bit 1 0)
-has-0 = true-T (bit 1 0) (bit-low 1)
+has-0 = true-T (bit-low 1)
 
 -- before any step: whether 0 is final
 pub start-meets : (f : ℕ) → meets 1 f ≡ bit f 0
@@ -134,7 +134,7 @@ module _ (t : List ℕ) (long : tableEntries ≤ length t) where
   follow-walks finals w h = rw (le-ltb (length t) tableEntries long) (follow-from finals 1 0 w h)
 
 flag-is : (o : Outcome) (b : Bool) → o ≡ flag b → (o ≡ flag true) ↔ T b
-flag-is o b e = (λ d. let z : b ≡ true = cc in true-T b z, λ s. e ∙ ap flag (T-true b s))
+flag-is o b e = (λ d. let z : b ≡ true = cc in true-T z, λ s. e ∙ ap flag (T-true b s))
 
 -- the last flag of a walker that starts at {0}, before any step whether 0 is final, is true exactly if the rule accepts the letters
 pub walker-sat : (r : Rule) (t : List ℕ) (f : ℕ) → IsTable r t f → weightOf r ≤ 64 → tableEntries ≤ length t → (w : List ℕ) → Letters w

@@ -4,7 +4,7 @@ use mathlib.Core.Bool.{true}
 use Prim.Native.Nat.{_+_, _-_}
 use native.Mathlib.Omega.{arith}
 use borrow.Author.Needs.{needs}
-use Rattle.judge.proofs.Sayings.{say-yes, say-no, on, off}
+use Rattle.bits.proofs.Sayings.{say-yes, say-no, on, off}
 use Rattle.judge.proofs.Tries.{Tried, tried-none, tried-one}
 use Rattle.judge.specs.Parts.{yes}
 use Rattle.judge.proofs.cuts.begins_at.Statement.{statement}

@@ -1,7 +1,7 @@
 -- `cuts::pair_at` meets its contract: each operator asks what its line says. Assumes nothing.
 use mathlib.Core.Logic.{inl, inr, ⊎-elim}
 use borrow.Author.Needs.{needs}
-use Rattle.judge.proofs.Sayings.{said-yes, said-no, says-map, says-test, on, off}
+use Rattle.bits.proofs.Sayings.{said-yes, said-no, says-map, says-test, on, off}
 use Rattle.judge.proofs.cuts.pair_at.Statement.{statement}
 use Rattle.judge.proofs.cuts.pair_at.Tie as tie
 

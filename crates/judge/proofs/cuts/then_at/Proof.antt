@@ -3,7 +3,7 @@ use mathlib.Core.Logic.{⊎-elim}
 use Prim.Native.Nat.{_+_, _-_}
 use native.Mathlib.Omega.{arith}
 use borrow.Author.Needs.{needs}
-use Rattle.judge.proofs.Sayings.{say-yes, say-no, on, off}
+use Rattle.bits.proofs.Sayings.{say-yes, say-no, on, off}
 use Rattle.judge.proofs.Tries.{Tried, tried-none, tried-one, Split}
 use Rattle.judge.proofs.cuts.then_at.Statement.{statement}
 use Rattle.judge.proofs.cuts.then_at.Tie as tie

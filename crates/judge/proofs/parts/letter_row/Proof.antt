@@ -2,7 +2,7 @@
 use mathlib.Core.Path.{refl}
 use native.Mathlib.Omega.{arith}
 use borrow.Author.Needs.{needs}
-use Rattle.judge.proofs.Sayings.{on, off}
+use Rattle.bits.proofs.Sayings.{on, off}
 use Rattle.judge.proofs.Rows.{no-bit, one-bit}
 use Rattle.judge.proofs.parts.letter_row.Statement.{statement}
 use Rattle.judge.proofs.parts.letter_row.Tie as tie

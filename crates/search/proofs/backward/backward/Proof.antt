@@ -6,7 +6,8 @@ use native.Mathlib.Omega.{arith}
 use lib.ListN.{length, getD}
 use Rattle.tables.specs.Table.{tableOf}
 use Rattle.models.specs.Stored.{modelWith}
-use Rattle.search.proofs.Settling.{Backing, seed-backing, settle-down, useful-end}
+use Rattle.search.proofs.Given.{given}
+use Rattle.search.proofs.Backing.{Backing, seed-backing, settle-down, useful-end}
 use borrow.Author.Needs.{needs}
 use Rattle.search.proofs.backward.backward.Statement.{statement}
 use Rattle.search.proofs.backward.backward.Tie as tie
@@ -24,7 +25,7 @@ loop-holds : tie.Need-loop-holds Inv-loop μ-loop
 loop-holds c = let z = c .before .before .before .before .before .before .before .before .before in
     let a = z .args in
     let e = c .before .before .seed .ensures in
-    (z .pre .7 .1 .some, omega arith, refl, λ i h. refl, seed-backing (a .table .now) (a .sizes .weight) (a .sizes .finals) (a .letters .now) (a .sizes .initial) (a .successors .now) (a .sizes .states) (z .pre .0) (z .pre .1) (a .level) (z .pre .7 .0) (a .marks .now) (z .pre .7 .1) _ _ (e .0) (z .pre .6) (e .1))
+    (z .pre .7 .1 .some, omega arith, refl, λ i h. refl, seed-backing (given (a .sizes) (a .table .now) (a .letters .now) (a .successors .now) (z .pre .0) (z .pre .1)) (a .level) (z .pre .7 .0) (a .marks .now) (z .pre .7 .1) _ _ (e .0) (z .pre .6) (e .1))
 
 sub-at : tie.Need-sub-at Inv-loop μ-loop
 sub-at c = search needs
@@ -40,7 +41,7 @@ loop-again c = let z = c .before .before .before .before .before .before .before
     let a = z .args in
     let l = c .before .before .before .before .before .loop in
     let e = c .before .before .settle .ensures in
-    (omega arith, omega arith, e .1 .size ∙ l .inv .2, λ i h. e .1 .past i h ∙ l .inv .3 i h, settle-down (a .table .now) (a .sizes .weight) (a .sizes .finals) (a .letters .now) (a .sizes .initial) (a .successors .now) (a .sizes .states) (z .pre .0) (z .pre .1) (a .level) (z .pre .7 .0) (a .marks .now) (z .pre .7 .1) _ _ (e .0) (l .at) (c .before .before .before .before .loop-test .taken) (l .inv .1) (l .inv .4) (e .1))
+    (omega arith, omega arith, e .1 .size ∙ l .inv .2, λ i h. e .1 .past i h ∙ l .inv .3 i h, settle-down (given (a .sizes) (a .table .now) (a .letters .now) (a .successors .now) (z .pre .0) (z .pre .1)) (a .level) (z .pre .7 .0) (a .marks .now) (z .pre .7 .1) _ _ (e .0) (l .at) (c .before .before .before .before .loop-test .taken) (l .inv .1) (l .inv .4) (e .1))
 
 same-length : tie.Need-same-length Inv-loop μ-loop
 same-length c = c .before .loop .inv .2 ∙ c .before .before .before .before .seed .ensures .1 .size

@@ -6,7 +6,8 @@ use native.Mathlib.Omega.{arith}
 use lib.Dec.{T}
 use Rattle.bits.specs.Word.{bit}
 use Rattle.tables.specs.Table.{tableOf}
-use Rattle.search.proofs.Members.{true-T, false-T, no-member, members-zero}
+use Rattle.bits.proofs.Truths.{true-T, false-no}
+use Rattle.search.proofs.Members.{no-member, members-zero}
 use Rattle.search.proofs.Settling.{led-set}
 use borrow.Author.Needs.{needs}
 use Rattle.search.proofs.backward.led.Statement.{statement}
@@ -37,7 +38,7 @@ returns-2 : tie.Need-returns-2
 returns-2 c = let z = c .before .before .before .before .before .before .before .before .before .before .before in led-set (tableOf (z .args .table .now) (z .args .sizes .weight) 0) (z .args .letters .now) (z .args .front .next) (z .args .marks .now) (z .args .useful .now) (z .args .front .level + 1) (λ q. T (bit (z .args .front .held) q)) (z .args .t) (true-T (sym (c .before .before .before .before .before .before .has .ensures) ∙ c .before .before .before .before .before .if1 .taken)) (c .before .before .before .kept .ensures) (c .leading .ensures)
 
 returns-3 : tie.Need-returns-3
-returns-3 c = members-zero (λ q l. false-T (sym (c .before .has .ensures) ∙ c .if1 .left) (l .0))
+returns-3 c = members-zero (λ q l. false-no (sym (c .before .has .ensures) ∙ c .if1 .left) (l .0))
 
 pub led-spec : {M : Type 1} → statement M
 led-spec =

@@ -6,6 +6,7 @@ use native.Mathlib.Omega.{arith}
 use Rattle.tables.specs.Table.{tableOf}
 use Rattle.models.specs.Stored.{modelWith}
 use Rattle.search.specs.Lent.{Beyond}
+use Rattle.search.proofs.Given.{given}
 use Rattle.search.proofs.Picking.{Written, write-start, write-end, mask-some, state-below, write-turn, beyond-none, beyond-next}
 use borrow.Author.Needs.{needs}
 use Rattle.search.proofs.choose.pick.Statement.{statement}
@@ -27,7 +28,7 @@ lowest-requires : tie.Need-lowest-requires Inv-loop μ-loop
 lowest-requires c κs = let z = c .before .before .before .before .before .before .before .before .before in
     let a = z .args in
     let l = c .before .before .loop in
-    mask-some (a .table .now) (a .sizes .weight) (a .sizes .finals) (a .letters .now) (a .sizes .initial) (a .successors .now) (a .sizes .states) (z .pre .0) (z .pre .1) (a .long) (a .marks .now) (a .useful .now) (z .pre .7) (l .run) (omega (arith, l .inv .1 .size, z .pre .5, z .pre .6)) (l .held) (l .next) (l .level) (c .before .loop-test .taken) (l .inv .2) (c .choices .result) (c .choices .ensures)
+    mask-some (given (a .sizes) (a .table .now) (a .letters .now) (a .successors .now) (z .pre .0) (z .pre .1)) (a .long) (a .marks .now) (a .useful .now) (z .pre .7) (l .run) (omega (arith, l .inv .1 .size, z .pre .5, z .pre .6)) (l .held) (l .next) (l .level) (c .before .loop-test .taken) (l .inv .2) (c .choices .result) (c .choices .ensures)
 
 cast-run : tie.Need-cast-run Inv-loop μ-loop
 cast-run c = omega (arith, c .lowest .ensures .inside)
@@ -42,7 +43,7 @@ onward-requires : tie.Need-onward-requires Inv-loop μ-loop
 onward-requires c κs = let z = c .before .before .before .before .before .before .before .before .before .before in
     let a = z .args in
     let l = c .before .before .before .loop in
-    (z .pre .0, z .pre .1, z .pre .3, z .pre .4, state-below (a .table .now) (a .sizes .weight) (a .sizes .finals) (a .letters .now) (a .sizes .initial) (a .successors .now) (a .sizes .states) (z .pre .0) (z .pre .1) (a .long) (a .marks .now) (a .useful .now) (z .pre .7) (l .run) (omega (arith, l .inv .1 .size, z .pre .5, z .pre .6)) (l .held) (l .next) (l .level) (c .before .before .loop-test .taken) (l .inv .2) (c .before .choices .result) (c .before .choices .ensures) (c .lowest .result) (c .lowest .ensures), omega (arith, z .pre .6))
+    (z .pre .0, z .pre .1, z .pre .3, z .pre .4, state-below (given (a .sizes) (a .table .now) (a .letters .now) (a .successors .now) (z .pre .0) (z .pre .1)) (a .long) (a .marks .now) (a .useful .now) (z .pre .7) (l .run) (omega (arith, l .inv .1 .size, z .pre .5, z .pre .6)) (l .held) (l .next) (l .level) (c .before .before .loop-test .taken) (l .inv .2) (c .before .choices .result) (c .before .choices .ensures) (c .lowest .result) (c .lowest .ensures), omega (arith, z .pre .6))
 
 mul-next : tie.Need-mul-next Inv-loop μ-loop
 mul-next c = omega (arith, c .before .lowest .ensures .inside)
@@ -51,7 +52,7 @@ shared-slice-read-next : tie.Need-shared-slice-read-next Inv-loop μ-loop
 shared-slice-read-next c = let z = c .before .before .before .before .before .before .before .before .before .before .before .before in
     let a = z .args in
     let l = c .before .before .before .before .before .loop in
-    omega (arith, z .pre .2, state-below (a .table .now) (a .sizes .weight) (a .sizes .finals) (a .letters .now) (a .sizes .initial) (a .successors .now) (a .sizes .states) (z .pre .0) (z .pre .1) (a .long) (a .marks .now) (a .useful .now) (z .pre .7) (l .run) (omega (arith, l .inv .1 .size, z .pre .5, z .pre .6)) (l .held) (l .next) (l .level) (c .before .before .before .before .loop-test .taken) (l .inv .2) (c .before .before .before .choices .result) (c .before .before .before .choices .ensures) (c .before .before .lowest .result) (c .before .before .lowest .ensures))
+    omega (arith, z .pre .2, state-below (given (a .sizes) (a .table .now) (a .letters .now) (a .successors .now) (z .pre .0) (z .pre .1)) (a .long) (a .marks .now) (a .useful .now) (z .pre .7) (l .run) (omega (arith, l .inv .1 .size, z .pre .5, z .pre .6)) (l .held) (l .next) (l .level) (c .before .before .before .before .loop-test .taken) (l .inv .2) (c .before .before .before .choices .result) (c .before .before .before .choices .ensures) (c .before .before .lowest .result) (c .before .before .lowest .ensures))
 
 add-level : tie.Need-add-level Inv-loop μ-loop
 add-level c = search needs
@@ -63,7 +64,7 @@ loop-again : tie.Need-loop-again Inv-loop μ-loop
 loop-again c = let z = c .before .before .before .before .before .before .before .before .before .before .before .before in
     let a = z .args in
     let l = c .before .before .before .before .before .loop in
-    (omega arith, beyond-next (l .level) (c .before .before .lowest .result) (l .inv .1) (c .before .before .before .before .loop-test .taken), write-turn (a .table .now) (a .sizes .weight) (a .sizes .finals) (a .letters .now) (a .sizes .initial) (a .successors .now) (a .sizes .states) (z .pre .0) (z .pre .1) (a .long) (a .marks .now) (a .useful .now) (z .pre .7) (l .run) (omega (arith, l .inv .1 .size, z .pre .5, z .pre .6)) (l .held) (l .next) (l .level) (c .before .before .before .before .loop-test .taken) (l .inv .2) (c .before .before .before .choices .result) (c .before .before .before .choices .ensures) (c .before .before .lowest .result) (c .before .before .lowest .ensures) (c .before .onward .result) (c .before .onward .ensures))
+    (omega arith, beyond-next (l .level) (c .before .before .lowest .result) (l .inv .1) (c .before .before .before .before .loop-test .taken), write-turn (given (a .sizes) (a .table .now) (a .letters .now) (a .successors .now) (z .pre .0) (z .pre .1)) (a .long) (a .marks .now) (a .useful .now) (z .pre .7) (l .run) (omega (arith, l .inv .1 .size, z .pre .5, z .pre .6)) (l .held) (l .next) (l .level) (c .before .before .before .before .loop-test .taken) (l .inv .2) (c .before .before .before .choices .result) (c .before .before .before .choices .ensures) (c .before .before .lowest .result) (c .before .before .lowest .ensures) (c .before .onward .result) (c .before .onward .ensures))
 
 same-length : tie.Need-same-length Inv-loop μ-loop
 same-length c = c .before .loop .inv .1 .size

@@ -6,6 +6,7 @@ use native.Mathlib.Omega.{arith}
 use lib.ListN.{length, getD}
 use Rattle.tables.specs.Table.{tableOf}
 use Rattle.models.specs.Stored.{modelWith}
+use Rattle.search.proofs.Given.{given}
 use Rattle.search.proofs.Pushing.{first-step}
 use Rattle.search.proofs.Going.{Going, go-start, go-on, go-found, go-none}
 use Rattle.search.proofs.forward.forward.Statement.{statement}
@@ -24,7 +25,7 @@ loop-holds : tie.Need-loop-holds Inv-loop μ-loop
 loop-holds c = let z = c .before .before .before .before .before .before .before .before in
     let a = z .args in
     let e = c .before .before .push-all .ensures in
-    (refl, λ i h. refl, go-start (a .table .now) (a .sizes .weight) (a .sizes .finals) (a .letters .now) (a .sizes .initial) (a .successors .now) (a .sizes .states) (z .pre .0) (z .pre .1) _ _ _ (z .pre .4) (first-step (tableOf (z .args .table .now) (z .args .sizes .weight) 0) (a .letters .now) (a .sizes .initial) (a .sizes .states) (e .1)))
+    (refl, λ i h. refl, go-start (given (a .sizes) (a .table .now) (a .letters .now) (a .successors .now) (z .pre .0) (z .pre .1)) _ _ _ (z .pre .4) (first-step (tableOf (z .args .table .now) (z .args .sizes .weight) 0) (a .letters .now) (a .sizes .initial) (a .sizes .states) (e .1)))
 
 final-all-requires : tie.Need-final-all-requires Inv-loop μ-loop
 final-all-requires c κs = let z = c .before .before .before .before .before .before .before .before .before .before .before in (omega (arith, c .before .before .loop .inv .0, c .before .before .before .before .before .push-all .ensures .1 .size, z .pre .3), z .pre .0 .small, z .pre .1 .few)
@@ -37,7 +38,7 @@ returns c = let z = c .before .before .before .before .before .before .before .b
     let a = z .args in
     let l = c .before .before .before .before .loop in
     let e = c .before .before .before .before .before .before .before .push-all .ensures in
-    (record { size = l .inv .0 ∙ e .1 .size; rest = λ i h. l .inv .1 i h ∙ e .1 .past i h }, go-found (a .table .now) (a .sizes .weight) (a .sizes .finals) (a .letters .now) (a .sizes .initial) (a .successors .now) (a .sizes .states) (z .pre .0) (z .pre .1) _ _ _ _ (l .inv .2) (c .before .before .before .loop-test .taken) (c .before .final-all .ensures .yes-holds (c .if1 .taken)))
+    (record { size = l .inv .0 ∙ e .1 .size; rest = λ i h. l .inv .1 i h ∙ e .1 .past i h }, go-found (given (a .sizes) (a .table .now) (a .letters .now) (a .successors .now) (z .pre .0) (z .pre .1)) _ _ _ _ (l .inv .2) (c .before .before .before .loop-test .taken) (c .before .final-all .ensures .yes-holds (c .if1 .taken)))
 
 round-requires : tie.Need-round-requires Inv-loop μ-loop
 round-requires c κs = let z = c .before .before .before .before .before .before .before .before .before .before .before .before .before .before in
@@ -53,7 +54,7 @@ add-count c = let z = c .before .before .before .before .before .before .before 
     let a = z .args in
     let l = c .before .before .before .before .before .before .before .before .loop in
     let t = c .before .before .before .before .before .before .before .loop-test .taken in
-    let g = go-on (a .table .now) (a .sizes .weight) (a .sizes .finals) (a .letters .now) (a .sizes .initial) (a .successors .now) (a .sizes .states) (z .pre .0) (z .pre .1) (l .fresh) (l .level) (l .count) (c .before .before .round .result) _ _ (l .inv .2) t (c .before .before .before .before .before .final-all .ensures .no-fails (c .before .before .before .before .if1 .left)) (c .before .before .round .ensures) in
+    let g = go-on (given (a .sizes) (a .table .now) (a .letters .now) (a .successors .now) (z .pre .0) (z .pre .1)) (l .fresh) (l .level) (l .count) (c .before .before .round .result) _ _ (l .inv .2) t (c .before .before .before .before .before .final-all .ensures .no-fails (c .before .before .before .before .if1 .left)) (c .before .before .round .ensures) in
     omega (arith, g .marked .few)
 
 loop-less : tie.Need-loop-less Inv-loop μ-loop
@@ -61,7 +62,7 @@ loop-less c = let z = c .before .before .before .before .before .before .before 
     let a = z .args in
     let l = c .before .before .before .before .before .before .before .before .loop in
     let t = c .before .before .before .before .before .before .before .loop-test .taken in
-    let g = go-on (a .table .now) (a .sizes .weight) (a .sizes .finals) (a .letters .now) (a .sizes .initial) (a .successors .now) (a .sizes .states) (z .pre .0) (z .pre .1) (l .fresh) (l .level) (l .count) (c .before .before .round .result) _ _ (l .inv .2) t (c .before .before .before .before .before .final-all .ensures .no-fails (c .before .before .before .before .if1 .left)) (c .before .before .round .ensures) in
+    let g = go-on (given (a .sizes) (a .table .now) (a .letters .now) (a .successors .now) (z .pre .0) (z .pre .1)) (l .fresh) (l .level) (l .count) (c .before .before .round .result) _ _ (l .inv .2) t (c .before .before .before .before .before .final-all .ensures .no-fails (c .before .before .before .before .if1 .left)) (c .before .before .round .ensures) in
     omega (arith, t, g .marked .few)
 
 loop-again : tie.Need-loop-again Inv-loop μ-loop
@@ -69,7 +70,7 @@ loop-again c = let z = c .before .before .before .before .before .before .before
     let a = z .args in
     let l = c .before .before .before .before .before .before .before .before .loop in
     let t = c .before .before .before .before .before .before .before .loop-test .taken in
-    let g = go-on (a .table .now) (a .sizes .weight) (a .sizes .finals) (a .letters .now) (a .sizes .initial) (a .successors .now) (a .sizes .states) (z .pre .0) (z .pre .1) (l .fresh) (l .level) (l .count) (c .before .before .round .result) _ _ (l .inv .2) t (c .before .before .before .before .before .final-all .ensures .no-fails (c .before .before .before .before .if1 .left)) (c .before .before .round .ensures) in
+    let g = go-on (given (a .sizes) (a .table .now) (a .letters .now) (a .successors .now) (z .pre .0) (z .pre .1)) (l .fresh) (l .level) (l .count) (c .before .before .round .result) _ _ (l .inv .2) t (c .before .before .before .before .before .final-all .ensures .no-fails (c .before .before .before .before .if1 .left)) (c .before .before .round .ensures) in
     (c .before .before .round .ensures .size ∙ l .inv .0, λ i h. c .before .before .round .ensures .past i h ∙ l .inv .1 i h, g)
 
 same-length-2 : tie.Need-same-length-2 Inv-loop μ-loop
@@ -80,7 +81,7 @@ returns-2 c = let z = c .before .before .before .before .before .before .before 
     let a = z .args in
     let l = c .before .loop in
     let e = c .before .before .before .before .push-all .ensures in
-    (record { size = l .inv .0 ∙ e .1 .size; rest = λ i h. l .inv .1 i h ∙ e .1 .past i h }, go-none (a .table .now) (a .sizes .weight) (a .sizes .finals) (a .letters .now) (a .sizes .initial) (a .successors .now) (a .sizes .states) (z .pre .0) (z .pre .1) _ _ _ _ (l .inv .2) (c .loop-test .left))
+    (record { size = l .inv .0 ∙ e .1 .size; rest = λ i h. l .inv .1 i h ∙ e .1 .past i h }, go-none (given (a .sizes) (a .table .now) (a .letters .now) (a .successors .now) (z .pre .0) (z .pre .1)) _ _ _ _ (l .inv .2) (c .loop-test .left))
 
 pub forward-spec : {M : Type 1} → statement M
 forward-spec =

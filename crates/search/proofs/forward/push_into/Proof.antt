@@ -5,7 +5,7 @@ use native.Mathlib.Omega.{arith}
 use lib.Dec.{T}
 use Rattle.bits.specs.Word.{bit}
 use Rattle.tables.specs.Table.{tableOf}
-use Rattle.search.proofs.Members.{true-T, false-T}
+use Rattle.bits.proofs.Truths.{true-T, false-no}
 use Rattle.search.proofs.Steps.{step-none}
 use Rattle.search.proofs.Pushing.{along-step}
 use borrow.Author.Needs.{needs}
@@ -34,7 +34,7 @@ returns : tie.Need-returns
 returns c = let z = c .before .before .before .before .before .before .before .before .before .before .before in let e = c .before .before .mark-row .ensures in (omega (arith, z .pre .0 .small), along-step (tableOf (z .args .table .now) (z .args .sizes .weight) 0) (z .args .letters .now) (z .args .front .next) (λ q. T (bit (z .args .front .held) q)) (z .args .t) (c .before .before .before .before .reached .ensures) (true-T (sym (c .before .before .before .before .before .before .before .has .ensures) ∙ c .before .before .before .before .before .before .if1 .taken)) (e .1))
 
 returns-2 : tie.Need-returns-2
-returns-2 c = (omega arith, step-none _ _ _ (λ i h. absurd (false-T (sym (c .before .has .ensures) ∙ c .if1 .left) (h .0))))
+returns-2 c = (omega arith, step-none _ _ _ (λ i h. absurd (false-no (sym (c .before .has .ensures) ∙ c .if1 .left) (h .0))))
 
 pub push-into-spec : {M : Type 1} → statement M
 push-into-spec =

@@ -1,6 +1,7 @@
 -- `search::inner::passes` meets its contract. The three passes, one after the other.
 -- Assumes nothing.
 use native.Mathlib.Omega.{arith}
+use Rattle.search.proofs.Given.{given}
 use Rattle.search.proofs.Picking.{beyond-none}
 use Rattle.search.proofs.Finding.{answers-nothing, level-small, ready, answers-found}
 use borrow.Author.Needs.{needs}
@@ -13,12 +14,12 @@ forward-requires c κs = let z = c .before .before .before .before .before .befo
 backward-requires : tie.Need-backward-requires
 backward-requires c κs = let z = c .before .before .before .before .before .before .before .before .before .before .before .before .before in
     let a = z .args in
-    (z .pre .0, z .pre .1, z .pre .2, omega (arith, z .pre .3, c .before .before .before .before .before .forward .ensures .0 .size), z .pre .4, level-small (a .table .now) (a .sizes .weight) (a .sizes .finals) (a .letters .now) (a .sizes .initial) (a .successors .now) (a .sizes .states) (z .pre .0) (z .pre .1) (c .before .before .before .before .before .forward .result .level) (c .before .before .before .before .before .forward .result .count) _ (c .before .before .before .before .before .forward .result .found) (c .before .before .if1 .taken) (c .before .before .before .before .before .forward .ensures .1), z .pre .7, (c .before .before .before .before .before .forward .result .count, c .before .before .before .before .before .forward .ensures .1 .marked))
+    (z .pre .0, z .pre .1, z .pre .2, omega (arith, z .pre .3, c .before .before .before .before .before .forward .ensures .0 .size), z .pre .4, level-small (given (a .sizes) (a .table .now) (a .letters .now) (a .successors .now) (z .pre .0) (z .pre .1)) (c .before .before .before .before .before .forward .result .level) (c .before .before .before .before .before .forward .result .count) _ (c .before .before .before .before .before .forward .result .found) (c .before .before .if1 .taken) (c .before .before .before .before .before .forward .ensures .1), z .pre .7, (c .before .before .before .before .before .forward .result .count, c .before .before .before .before .before .forward .ensures .1 .marked))
 
 pick-requires : tie.Need-pick-requires
 pick-requires c κs = let z = c .before .before .before .before .before .before .before .before .before .before .before .before .before .before .before .before .before .before .before in
     let a = z .args in
-    (z .pre .0, z .pre .1, z .pre .2, omega (arith, z .pre .3, c .before .before .before .before .before .before .before .before .before .before .before .forward .ensures .0 .size), omega (arith, z .pre .4, c .before .before .before .before .before .backward .ensures .0 .size), z .pre .5, level-small (a .table .now) (a .sizes .weight) (a .sizes .finals) (a .letters .now) (a .sizes .initial) (a .successors .now) (a .sizes .states) (z .pre .0) (z .pre .1) (c .before .before .before .before .before .before .before .before .before .before .before .forward .result .level) (c .before .before .before .before .before .before .before .before .before .before .before .forward .result .count) _ (c .before .before .before .before .before .before .before .before .before .before .before .forward .result .found) (c .before .before .before .before .before .before .before .before .if1 .taken) (c .before .before .before .before .before .before .before .before .before .before .before .forward .ensures .1), ready (a .table .now) (a .sizes .weight) (a .sizes .finals) (a .letters .now) (a .sizes .initial) (a .successors .now) (a .sizes .states) (z .pre .0) (z .pre .1) (c .before .before .before .before .before .before .before .before .before .before .before .forward .result .level) (c .before .before .before .before .before .before .before .before .before .before .before .forward .result .count) _ (c .before .before .before .before .before .before .before .before .before .before .before .forward .result .found) (c .before .before .before .before .before .before .before .before .if1 .taken) (c .before .before .before .before .before .before .before .before .before .before .before .forward .ensures .1) _ (c .before .before .before .before .before .backward .ensures .1))
+    (z .pre .0, z .pre .1, z .pre .2, omega (arith, z .pre .3, c .before .before .before .before .before .before .before .before .before .before .before .forward .ensures .0 .size), omega (arith, z .pre .4, c .before .before .before .before .before .backward .ensures .0 .size), z .pre .5, level-small (given (a .sizes) (a .table .now) (a .letters .now) (a .successors .now) (z .pre .0) (z .pre .1)) (c .before .before .before .before .before .before .before .before .before .before .before .forward .result .level) (c .before .before .before .before .before .before .before .before .before .before .before .forward .result .count) _ (c .before .before .before .before .before .before .before .before .before .before .before .forward .result .found) (c .before .before .before .before .before .before .before .before .if1 .taken) (c .before .before .before .before .before .before .before .before .before .before .before .forward .ensures .1), ready (given (a .sizes) (a .table .now) (a .letters .now) (a .successors .now) (z .pre .0) (z .pre .1)) (c .before .before .before .before .before .before .before .before .before .before .before .forward .result .level) (c .before .before .before .before .before .before .before .before .before .before .before .forward .result .count) _ (c .before .before .before .before .before .before .before .before .before .before .before .forward .result .found) (c .before .before .before .before .before .before .before .before .if1 .taken) (c .before .before .before .before .before .before .before .before .before .before .before .forward .ensures .1) _ (c .before .before .before .before .before .backward .ensures .1))
 
 cast-long : tie.Need-cast-long
 cast-long c = search needs
@@ -36,7 +37,7 @@ returns : tie.Need-returns
 returns c = let z = c .before .before .before .before .before .before .before .before .before .before .before .before .before .before .before .before .before .before .before .before .before .before in
     let a = z .args in
     let p = c .before .before .pick .ensures in
-    (answers-found (a .table .now) (a .sizes .weight) (a .sizes .finals) (a .letters .now) (a .sizes .initial) (a .successors .now) (a .sizes .states) (z .pre .0) (z .pre .1) (c .before .before .before .before .before .before .before .before .before .before .before .before .before .before .forward .result .level) (c .before .before .before .before .before .before .before .before .before .before .before .before .before .before .forward .result .count) _ (c .before .before .before .before .before .before .before .before .before .before .before .before .before .before .forward .result .found) (c .before .before .before .before .before .before .before .before .before .before .before .if1 .taken) (c .before .before .before .before .before .before .before .before .before .before .before .before .before .before .forward .ensures .1) _ _ (p .1) (p .0) (omega (arith, p .0 .size, z .pre .5, level-small (a .table .now) (a .sizes .weight) (a .sizes .finals) (a .letters .now) (a .sizes .initial) (a .successors .now) (a .sizes .states) (z .pre .0) (z .pre .1) (c .before .before .before .before .before .before .before .before .before .before .before .before .before .before .forward .result .level) (c .before .before .before .before .before .before .before .before .before .before .before .before .before .before .forward .result .count) _ (c .before .before .before .before .before .before .before .before .before .before .before .before .before .before .forward .result .found) (c .before .before .before .before .before .before .before .before .before .before .before .if1 .taken) (c .before .before .before .before .before .before .before .before .before .before .before .before .before .before .forward .ensures .1))), c .before .before .before .before .before .before .before .before .before .before .before .before .before .before .forward .ensures .0, c .before .before .before .before .before .before .before .before .backward .ensures .0)
+    (answers-found (given (a .sizes) (a .table .now) (a .letters .now) (a .successors .now) (z .pre .0) (z .pre .1)) (c .before .before .before .before .before .before .before .before .before .before .before .before .before .before .forward .result .level) (c .before .before .before .before .before .before .before .before .before .before .before .before .before .before .forward .result .count) _ (c .before .before .before .before .before .before .before .before .before .before .before .before .before .before .forward .result .found) (c .before .before .before .before .before .before .before .before .before .before .before .if1 .taken) (c .before .before .before .before .before .before .before .before .before .before .before .before .before .before .forward .ensures .1) _ _ (p .1) (p .0) (omega (arith, p .0 .size, z .pre .5, level-small (given (a .sizes) (a .table .now) (a .letters .now) (a .successors .now) (z .pre .0) (z .pre .1)) (c .before .before .before .before .before .before .before .before .before .before .before .before .before .before .forward .result .level) (c .before .before .before .before .before .before .before .before .before .before .before .before .before .before .forward .result .count) _ (c .before .before .before .before .before .before .before .before .before .before .before .before .before .before .forward .result .found) (c .before .before .before .before .before .before .before .before .before .before .before .if1 .taken) (c .before .before .before .before .before .before .before .before .before .before .before .before .before .before .forward .ensures .1))), c .before .before .before .before .before .before .before .before .before .before .before .before .before .before .forward .ensures .0, c .before .before .before .before .before .before .before .before .backward .ensures .0)
 
 same-length-4 : tie.Need-same-length-4
 same-length-4 c = c .before .before .before .forward .ensures .0 .size
@@ -45,7 +46,7 @@ returns-2 : tie.Need-returns-2
 returns-2 c = let z = c .before .before .before .before .before .before .before .before .before .before .before in
     let a = z .args in
     let f = c .before .before .before .forward in
-    (answers-nothing (a .table .now) (a .sizes .weight) (a .sizes .finals) (a .letters .now) (a .sizes .initial) (a .successors .now) (a .sizes .states) (z .pre .0) (z .pre .1) (f .result .level) (f .result .count) _ _ (f .result .found) (c .if1 .left) (f .ensures .1), f .ensures .0, beyond-none _ _)
+    (answers-nothing (given (a .sizes) (a .table .now) (a .letters .now) (a .successors .now) (z .pre .0) (z .pre .1)) (f .result .level) (f .result .count) _ _ (f .result .found) (c .if1 .left) (f .ensures .1), f .ensures .0, beyond-none _ _)
 
 pub passes-spec : {M : Type 1} → statement M
 passes-spec =

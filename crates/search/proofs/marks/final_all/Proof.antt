@@ -3,8 +3,9 @@
 use Prim.Native.Nat.{ℕ, _-_, _≤_, _<_}
 use native.Mathlib.Omega.{arith}
 use borrow.Author.Count.{below-more}
-use Rattle.search.specs.Passes.{FinalIn, finalOf}
-use Rattle.search.proofs.Members.{says-no, says-yes}
+use Rattle.tables.specs.Table.{finalOf}
+use Rattle.search.specs.Passes.{FinalIn}
+use Rattle.bits.proofs.Sayings.{say-no, say-yes}
 use borrow.Author.Needs.{needs}
 use Rattle.search.proofs.marks.final_all.Statement.{statement}
 use Rattle.search.proofs.marks.final_all.Tie as tie
@@ -22,7 +23,7 @@ final-row-requires : tie.Need-final-row-requires Inv-loop μ-loop
 final-row-requires c κs = search needs
 
 returns : tie.Need-returns Inv-loop μ-loop
-returns c = says-yes (record { row = c .before .before .before .loop .s; below = omega arith; there = c .before .final-row .ensures .yes-holds (c .if1 .taken) })
+returns c = say-yes (record { row = c .before .before .before .loop .s; below = omega arith; there = c .before .final-row .ensures .yes-holds (c .if1 .taken) })
 
 add-s : tie.Need-add-s Inv-loop μ-loop
 add-s c = search needs
@@ -34,7 +35,7 @@ loop-again : tie.Need-loop-again Inv-loop μ-loop
 loop-again c = (omega arith, below-more _ _ (c .before .before .before .loop .inv .1) (c .before .final-row .ensures .no-fails (c .if1 .left)))
 
 returns-2 : tie.Need-returns-2 Inv-loop μ-loop
-returns-2 c = says-no (λ x. c .before .loop .inv .1 (x .row) (omega (arith, x .below)) (x .there))
+returns-2 c = say-no (λ x. c .before .loop .inv .1 (x .row) (omega (arith, x .below)) (x .there))
 
 pub final-all-spec : {M : Type 1} → statement M
 final-all-spec =

@@ -1,6 +1,6 @@
 -- `search::marks::is_kept` meets its contract. By the two tests.
 -- Assumes nothing.
-use Rattle.search.proofs.Members.{says-some, says-no}
+use Rattle.bits.proofs.Sayings.{says-map, says-some, say-no}
 use borrow.Author.Needs.{needs}
 use Rattle.search.proofs.marks.is_kept.Statement.{statement}
 use Rattle.search.proofs.marks.is_kept.Tie as tie
@@ -30,10 +30,10 @@ shared-slice-read-result : tie.Need-shared-slice-read-result
 shared-slice-read-result c = search needs
 
 returns : tie.Need-returns
-returns c = says-some _ (λ h. record { on = c .before .if1 .taken; useful = h }) (λ k. k .useful)
+returns c = says-map (λ h. record { on = c .before .if1 .taken; useful = h }) (λ k. k .useful) (says-some _)
 
 returns-2 : tie.Need-returns-2
-returns-2 c = says-no (λ k. c .if1 .left (k .on))
+returns-2 c = say-no (λ k. c .if1 .left (k .on))
 
 pub is-kept-spec : {M : Type 1} → statement M
 is-kept-spec =

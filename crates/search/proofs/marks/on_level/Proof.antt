@@ -4,7 +4,8 @@ use Prim.Native.Nat.{_-_, _≤_}
 use mathlib.Core.Path.{_≡_}
 use native.Mathlib.Omega.{arith}
 use Rattle.search.specs.Passes.{Members, Under, view}
-use Rattle.search.proofs.Members.{says-eq, members-none, members-turn, members-end}
+use Rattle.bits.proofs.Sayings.{says-eq}
+use Rattle.search.proofs.Members.{members-none, members-turn, members-end}
 use borrow.Author.Needs.{needs}
 use Rattle.search.proofs.marks.on_level.Statement.{statement}
 use Rattle.search.proofs.marks.on_level.Tie as tie

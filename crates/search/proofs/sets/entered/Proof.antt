@@ -1,7 +1,8 @@
 -- `search::sets::entered` meets its contract. The invariant: the set has the states below p that the label leads to.
 -- Assumes nothing.
 use Rattle.search.proofs.Labels.{entered-end}
-use Rattle.search.proofs.Members.{says, members-none, members-turn, members-end}
+use Rattle.bits.proofs.Sayings.{says-T}
+use Rattle.search.proofs.Members.{members-none, members-turn, members-end}
 use Prim.Native.Nat.{_-_, _≤_}
 use native.Mathlib.Omega.{arith}
 use lib.Dec.{T}
@@ -35,7 +36,7 @@ loop-less : tie.Need-loop-less Inv-loop μ-loop
 loop-less c = search needs
 
 loop-again : tie.Need-loop-again Inv-loop μ-loop
-loop-again c = (omega arith, members-turn (c .add-if .ensures) (c .before .before .before .loop .inv .1) (says (c .before .reads .ensures) (λ t. t) (λ t. t)))
+loop-again c = (omega arith, members-turn (c .add-if .ensures) (c .before .before .before .loop .inv .1) (says-T (c .before .reads .ensures)))
 
 returns : tie.Need-returns Inv-loop μ-loop
 returns c = let a = c .before .before .before .args in entered-end (a .table .now) (a .weight) 0 (a .q) (a .x) (omega arith) (members-end (c .before .loop .inv .1) _ (omega arith) (omega arith))

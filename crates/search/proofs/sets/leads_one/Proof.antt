@@ -4,7 +4,8 @@ use mathlib.Core.Path.{sym, _∙_}
 use native.Mathlib.Omega.{arith}
 use lib.Dec.{T}
 use Rattle.bits.specs.Word.{bit}
-use Rattle.search.proofs.Members.{says-no, true-T, false-T}
+use Rattle.bits.proofs.Truths.{true-T, false-no}
+use Rattle.bits.proofs.Sayings.{say-no}
 use Rattle.search.proofs.Labels.{leads-says}
 use borrow.Author.Needs.{needs}
 use Rattle.search.proofs.sets.leads_one.Statement.{statement}
@@ -20,7 +21,7 @@ returns : tie.Need-returns
 returns c = let a = c .before .before .before .before .args in leads-says (a .table .now) (a .weight) 0 (λ q. T (bit (a .from) q)) (a .q) (a .x) (a .to) (omega (arith, c .entered .ok)) (c .entered .ensures) (true-T (sym (c .before .before .has .ensures) ∙ c .before .if1 .taken))
 
 returns-2 : tie.Need-returns-2
-returns-2 c = says-no (λ l. false-T (sym (c .before .has .ensures) ∙ c .if1 .left) (l .held))
+returns-2 c = say-no (λ l. false-no (sym (c .before .has .ensures) ∙ c .if1 .left) (l .held))
 
 pub leads-one-spec : {M : Type 1} → statement M
 leads-one-spec = tie.close (tie.spec has-requires entered-requires returns returns-2)

@@ -1,15 +1,16 @@
--- What follows from an answer, and for it. Assumes nothing.
+-- Laws of `Says`: what follows from a test's answer, and for it. Assumes nothing.
 use mathlib.Core.Path.{_≡_, refl, sym, _∙_}
-use mathlib.Core.Bool.{Bool, true, false}
-use Prim.Native.Nat.{ℕ}
+use mathlib.Core.Logic.{_≢_}
+use mathlib.Core.Bool.{Bool, true, false, not, false≢true}
+use Prim.Native.Nat.{ℕ, _≤_, _<_}
 use native.Mathlib.Omega.{arith}
+use lib.Dec.{T, eqb, leb}
+use borrow.Author.Tests.{eqb-true, eqb-false, leb-true, leb-false, not-true, not-false}
 use Rattle.bits.specs.Says.{Says}
+use Rattle.bits.proofs.Truths.{true-T, false-no}
 
-pub clash : {x : Bool} → x ≡ true → x ≡ false → ⊥
-clash {x} p q =
-    let z : _≡_ {A = Bool} true false = sym p ∙ q in
-    let n : _≡_ {A = ℕ} 0 1 = cc in
-    omega arith
+clash : {x : Bool} → x ≡ true → x ≡ false → ⊥
+clash p q = false≢true (sym q ∙ p)
 
 -- an answer that is yes, with the reason, and one that is no
 pub said-yes : {b : Bool} {P : Type 0} → b ≡ true → P → Says b P
@@ -48,9 +49,23 @@ says-once {b} {c} {P} s t = go c refl
         go′ true z = absurd (t .no-fails q (s .yes-holds z))
         go′ false z = z
 
+-- ---- the tests of the code
+
 -- a test answers whether it is true
 pub says-test : {b t : Bool} → b ≡ t → Says b (t ≡ true)
 says-test {b} {t} e = record { yes-holds = λ q. sym e ∙ q; no-fails = λ q p. clash p (sym e ∙ q) }
+
+pub says-T : {b t : Bool} → b ≡ t → Says b (T t)
+says-T e = record { yes-holds = λ q. true-T (sym e ∙ q); no-fails = λ q. false-no (sym e ∙ q) }
+
+pub says-eq : (a b : ℕ) → Says (eqb a b) (a ≡ b)
+says-eq a b = record { yes-holds = eqb-true a b; no-fails = eqb-false a b }
+
+pub says-le : (a b : ℕ) → Says (leb a b) (a ≤ b)
+says-le a b = record { yes-holds = leb-true a b; no-fails = λ e h. let l : b < a = leb-false a b e in omega arith }
+
+pub says-some : (a : ℕ) → Says (not (eqb a 0)) (a ≢ 0)
+says-some a = record { yes-holds = λ t. eqb-false a 0 (not-true (eqb a 0) t); no-fails = λ t n. n (eqb-true a 0 (not-false (eqb a 0) t)) }
 
 -- a test that came out true, and one that came out false
 pub on : {x y : Bool} → x ≡ y → x ≡ true → y ≡ true
