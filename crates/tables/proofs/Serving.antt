@@ -39,9 +39,6 @@ module _ (r : Rule) (t : List ℕ) (f : ℕ) (is : IsTable r t f) where
   pub outside : Words t → (p q : ℕ) → p < 64 → q < 64 → (weightOf r ≤ p) ⊎ (weightOf r ≤ q) ⊎ (q ≡ 0) → cell t p q ≡ 0
   outside words p q hp hq o = bit-none 64 (cell t p q) (words (64 * p + q)) (λ x hx. no-false (bit (cell t p q) x) (no-label p q x hp hq hx o))
 
-  pub finals-inside : (q : ℕ) → q < 64 → T (bit f q) → q < weightOf r
-  finals-inside q h s = final-inside r q (is .ends q h .0 s)
-
 -- two tables of one rule agree in each of the 4,096 entries, and so do two sets of finals
 module _ (r : Rule) (t u : List ℕ) (f g : ℕ) (is : IsTable r t f) (js : IsTable r u g) where
   pub one-table : Words t → Words u → (p q : ℕ) → p < 64 → q < 64 → cell t p q ≡ cell u p q
