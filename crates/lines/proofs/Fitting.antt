@@ -3,15 +3,14 @@ use Prim.Native.Nat.{ℕ, _+_, _*_, _^_, _≤_, _<_}
 use native.Mathlib.Omega.{arith}
 use mathlib.Core.Path.{_≡_, refl, sym, ap, subst, _∙_}
 use mathlib.Core.List.{List, _++_}
-use lib.ListN.{length, take, length-append, length-take}
+use lib.ListN.{length, getD, take, length-append, length-take}
 use Rattle.rules.specs.declared.Known.{Known}
 use Rattle.rules.specs.Weight.{weightOf}
 use Rattle.tables.specs.Table.{tableOf}
-use Rattle.models.specs.Reading.{Outcome, good, fault, records, linked, thenLinked}
 use Rattle.models.specs.Model.{Model}
 use Rattle.models.specs.Stored.{modelOf}
 use Rattle.models.specs.Answer as models
-use Rattle.models.proofs.Passes.{counts, linked-good}
+use Rattle.models.proofs.Soundness.{answer-held}
 use Rattle.search.specs.declared.inner.Searched.the-variants.{Found, Nothing}
 use Rattle.search.specs.declared.SearchAnswer.{SearchAnswer}
 use Rattle.search.specs.declared.SearchAnswer.the-variants.{Answered, RuleRefused, ModelRefused, ShortSlice}
@@ -49,20 +48,8 @@ refused-room number place h k =
     let c = length-append (named refusedWord number) (named atWord place) in
     omega arith
 
--- a model that is read has at most 64 states
-few-states : (s : List ℕ) → models.answer s .model .states ≤ 64
-few-states s = all (records 64 s 0) refl
-  where
-    linked-few : (n : ℕ) → n ≤ 64 → (o : Outcome) → linked n s n 0 ≡ o → models.given s o .model .states ≤ 64
-    linked-few n l (good m) e = let g = linked-good s n n 0 m e in omega (arith, g .0)
-    linked-few n l (fault a b) e = omega arith
-
-    all : (o : Outcome) → records 64 s 0 ≡ o → models.given s (thenLinked s o) .model .states ≤ 64
-    all (good n) e = let f = counts s 64 0 n e .few in linked-few n (omega arith) (linked n s n 0) refl
-    all (fault a b) e = omega arith
-
 -- a find's length is the run's, and none of the run's states is above 63
-module _ (rule model : List ℕ) (before after : Slices) (k : Known) (long c : ℕ) (run : List ℕ) where
+module _ (rule model : List ℕ) (before after : Slices) (bytes : (i : ℕ) → getD model i 0 < 256) (k : Known) (long c : ℕ) (run : List ℕ) where
   found-short : {x : Result} → SearchRight rule model before after x → x ≡ answered k long (found run c) → (long ≡ length run) × (length (statesText run) ≤ 3 * length run)
   found-short (rule-refused q e) w = let z : _≡_ {A = ℕ} 0 1 = cc in absurd (omega arith)
   found-short (model-refused f v e) w = let z : _≡_ {A = ℕ} 0 1 = cc in absurd (omega arith)
@@ -71,17 +58,17 @@ module _ (rule model : List ℕ) (before after : Slices) (k : Known) (long c : �
       let g : r ≡ found run c = cc in
       let M : Model = modelOf (models.answer model .model) in
       let right : Right M (tableOf (after .table) (weightOf f) (z .finals)) f (found run c) = subst (λ (y : Answer). Right M (tableOf (after .table) (weightOf f) (z .finals)) f y) g (z .right) in
-      (cc, states-short M (few-states model) (M .initial) run (right .0 .matches .0 .1))
+      (cc, states-short M (answer-held model bytes .sound .few) (M .initial) run (right .0 .matches .0 .1))
 
 -- so the text of every answer has room
-pub search-fits : (rule model : List ℕ) (before after : Slices) (answer : SearchAnswer) (out : List ℕ) → lineRoom ≤ length out → length (after .run) ≡ 4096
+pub search-fits : (rule model : List ℕ) (before after : Slices) → ((i : ℕ) → getD model i 0 < 256) → (answer : SearchAnswer) (out : List ℕ) → lineRoom ≤ length out → length (after .run) ≡ 4096
     → SearchRight rule model before after (told answer (after .run)) → Fits answer (after .run) out
 unfolding statesText
-search-fits rule model before after (Answered (Found long pairs) k) out l e x =
-    let f = found-short rule model before after k long pairs (take long (after .run)) x refl in
+search-fits rule model before after bytes (Answered (Found long pairs) k) out l e x =
+    let f = found-short rule model before after bytes k long pairs (take long (after .run)) x refl in
     let t = length-take long (after .run) in
     record { room = l; run-there = omega (arith, f .0); run-short = omega (arith, f .0, f .1) }
-search-fits rule model before after (Answered (Nothing pairs) k) out l e x = record { room = l; run-there = omega arith; run-short = omega arith }
-search-fits rule model before after (RuleRefused x) out l e r = record { room = l; run-there = omega arith; run-short = omega arith }
-search-fits rule model before after (ModelRefused x) out l e r = record { room = l; run-there = omega arith; run-short = omega arith }
-search-fits rule model before after ShortSlice out l e r = record { room = l; run-there = omega arith; run-short = omega arith }
+search-fits rule model before after bytes (Answered (Nothing pairs) k) out l e x = record { room = l; run-there = omega arith; run-short = omega arith }
+search-fits rule model before after bytes (RuleRefused x) out l e r = record { room = l; run-there = omega arith; run-short = omega arith }
+search-fits rule model before after bytes (ModelRefused x) out l e r = record { room = l; run-there = omega arith; run-short = omega arith }
+search-fits rule model before after bytes ShortSlice out l e r = record { room = l; run-there = omega arith; run-short = omega arith }

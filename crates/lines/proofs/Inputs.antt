@@ -1,10 +1,10 @@
 -- The rule and the model of an input, by the places where they stand. Assumes nothing.
-use Prim.Native.Nat.{ℕ, zero, suc, _-_, _≤_, _<_}
+use Prim.Native.Nat.{ℕ, suc, _+_, _-_, _≤_, _<_}
 use native.Mathlib.Omega.{arith}
-use mathlib.Core.Path.{_≡_, refl, sym, ap₂, _∙_}
+use mathlib.Core.Path.{_≡_, refl, sym, ap₂, subst, _∙_}
 use mathlib.Core.List.{List, [], _∷_}
 use lib.ListN.{length, getD, take, drop, length-drop, drop-of-length-le}
-use lib.Seq.{take-all, drop-length}
+use lib.Seq.{take-all, drop-length, getD-drop}
 use Rattle.lines.specs.Input.{ruleIn, modelIn}
 
 -- all that follows the first n
@@ -46,3 +46,9 @@ module _ (s rest : List ℕ) (long : ℕ) (some : 0 < length s) (follows : rest 
 
   pub model-rest : length rest < long → drop (length rest) rest ≡ modelIn s
   model-rest l = let h : length rest ≤ long = omega arith in drop-length rest ∙ sym (drop-of-length-le rest h) ∙ model-part
+
+-- the model's bytes are bytes
+pub model-bytes : (s : List ℕ) → ((i : ℕ) → getD s i 0 < 256) → (i : ℕ) → getD (modelIn s) i 0 < 256
+unfolding modelIn
+model-bytes [] h i = h i
+model-bytes (n ∷ rest) h i = subst (λ (x : ℕ). x < 256) (sym (getD-drop n rest i 0)) (h (suc (n + i)))

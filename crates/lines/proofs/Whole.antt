@@ -1,9 +1,8 @@
 -- From the search for an input to its line. Assumes nothing.
-use Prim.Native.Nat.{ℕ, _≤_}
-use native.Mathlib.Omega.{arith}
-use mathlib.Core.Path.{_≡_, ap, ap₂, subst, _∙_, refl}
+use Prim.Native.Nat.{ℕ, _≤_, _<_}
+use mathlib.Core.Path.{_≡_, refl, ap, subst, subst⁻¹, _∙_}
 use mathlib.Core.List.{List}
-use lib.ListN.{length, length-replicate}
+use lib.ListN.{length, getD, length-replicate}
 use Rattle.tables.specs.IsTable.{Words}
 use Rattle.search.specs.declared.SearchAnswer.{SearchAnswer}
 use Rattle.search.specs.Answer.{Slices, slices, told, SearchRight}
@@ -12,6 +11,7 @@ use Rattle.lines.specs.Input.{ruleIn, modelIn}
 use Rattle.lines.specs.Writing.{Wrote}
 use Rattle.lines.specs.Room.{lineRoom, Fits}
 use Rattle.lines.specs.Line.{fresh, LineRight, written}
+use Rattle.lines.proofs.Inputs.{model-bytes}
 use Rattle.lines.proofs.Fitting.{search-fits}
 
 fresh-long : length (fresh .run) ≡ 4096
@@ -19,8 +19,9 @@ unfolding fresh
 fresh-long = length-replicate {A = ℕ} 4096 0
 
 module _ {rule model out : List ℕ} {before after : Slices} (answer : SearchAnswer) (new : before ≡ fresh) (room : lineRoom ≤ length out) (right : SearchRight rule model before after (told answer (after .run))) where
-  pub line-fits : length (after .run) ≡ length (before .run) → Fits answer (after .run) out
-  line-fits e = search-fits rule model before after answer out room (e ∙ ap (λ (s : Slices). length (s .run)) new ∙ fresh-long) right
+  pub line-fits : (input : List ℕ) → ((i : ℕ) → getD input i 0 < 256) → model ≡ modelIn input → length (after .run) ≡ length (before .run) → Fits answer (after .run) out
+  line-fits input bytes q e =
+      search-fits rule model before after (λ i. subst⁻¹ (λ (s : List ℕ). getD s i 0 < 256) q (model-bytes input bytes i)) answer out room (e ∙ ap (λ (s : Slices). length (s .run)) new ∙ fresh-long) right
 
   pub line-written : {input out′ : List ℕ} {long : ℕ} → rule ≡ ruleIn input → model ≡ modelIn input → Words (after .table) → Wrote (textOf (told answer (after .run))) out 0 out′ long
       → LineRight input out out′ long

@@ -16,7 +16,7 @@ search-requires c κs = search needs
 put-answer-requires : tie.Need-put-answer-requires
 put-answer-requires c κs =
     let s = c .before .before .before .before .before .before .before .before .before .before .before .before .before .before .before .before .before .before .before .before .before .before .before in
-    line-fits (c .before .before .before .before .before .before .before .before .before .before .search .result) (s .pre .1) (s .pre .0) (c .before .before .before .before .before .before .before .before .before .before .search .ensures) (c .before .before .before .run .given)
+    line-fits (c .before .before .before .before .before .before .before .before .before .before .search .result) (s .pre .1) (s .pre .0) (c .before .before .before .before .before .before .before .before .before .before .search .ensures) (s .args .input .now) (λ k. c .before .before .before .before .before .before .before .before .before .before .before .before .before .before .before .before .before .before .before .before .before .before .shared-slice-known .given k .fits) (c .before .before .before .before .before .before .before .before .before .before .before .before .before .before .before .model-in .ensures) (c .before .before .before .run .given)
 
 same-length : tie.Need-same-length
 same-length c = search needs
