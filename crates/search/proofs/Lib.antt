@@ -6,6 +6,7 @@ pub mod Tally
 pub mod Useful
 pub mod Pick
 pub mod Choice
+pub mod Ranges
 pub mod Steps
 pub mod Rounds
 pub mod Going

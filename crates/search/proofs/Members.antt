@@ -10,10 +10,11 @@ use lib.Bits.{bitOr, bitAnd}
 use lib.Dec.{T, eqb}
 use Rattle.bits.specs.Word.{bit, any, Lowest}
 use Rattle.bits.specs.Says.{Says}
-use Rattle.bits.proofs.Laws.{bit-zero, bit-or, bit-and, bit-insert, any-bit, any-elim}
+use Rattle.bits.proofs.Laws.{bit-zero, bit-pow, bit-or, bit-and, bit-insert, any-bit, any-elim}
 use Rattle.bits.proofs.Truths.{and-T, or-T, true-T, T-true, false-no}
 use Rattle.bits.proofs.Sayings.{says-map, says-some}
 use Rattle.search.specs.Passes.{Members, addIf, Under, Below}
+use Rattle.search.proofs.Ranges.{below-older, below-newest, below-split}
 
 pub members-same : {w : ℕ} {P Q : ℕ → Type 0} → Members w P → ((k : ℕ) → P k → Q k) → ((k : ℕ) → Q k → P k) → Members w Q
 members-same m f g = record { holds = λ k t. f k (m .holds k t); has = λ k q. m .has k (g k q) }
@@ -26,6 +27,13 @@ members-zero f = record { holds = λ k t. absurd (false-no (bit-zero k) t); has 
 
 pub members-none : (P : ℕ → Type 0) → Members 0 (Under P 0)
 members-none P = members-zero (λ k p. omega (arith, p .below))
+
+-- 0 alone
+pub members-first : Members 1 (λ q. 0 ≡ q)
+members-first = record {
+  holds = λ q t. sym (eqb-true q 0 (sym (bit-pow 0 q) ∙ T-true (bit 1 q) t));
+  has = λ q e. true-T (bit-pow 0 q ∙ eq-eqb q 0 (sym e));
+}
 
 -- one more number is tried
 pub members-next : {w k : ℕ} {P : ℕ → Type 0} (b : Bool) → Members w (Under P k) → Says b (P k) → Members (addIf w k b) (Under P (k + 1))
@@ -70,13 +78,7 @@ pub union-none : (S : ℕ → ℕ → Type 0) → Members 0 (Below S 0)
 union-none S = members-zero (λ k p. omega (arith, p .below))
 
 pub union-next : {a b k : ℕ} {S : ℕ → ℕ → Type 0} → Members a (Below S k) → Members b (S k) → Members (bitOr a b) (Below S (k + 1))
-union-next {k = k} {S = S} x y =
-    members-same (members-or x y) (λ j p. ⊎-elim (λ u. record { at = u .at; below = omega (arith, u .below); holds = u .holds }) (λ u. record { at = k; below = omega arith; holds = u }) p)
-    (λ j p. split j p (ℕ-discrete (p .at) k))
-  where
-    split : (j : ℕ) (p : Below S (k + 1) j) → Dec (p .at ≡ k) → Below S k j ⊎ S k j
-    split j p (yes e) = inr (subst (λ (z : ℕ). S z j) e (p .holds))
-    split j p (no e) = inl (record { at = p .at; below = omega (arith, p .below); holds = p .holds })
+union-next {k = k} {S = S} x y = members-same (members-or x y) (λ j p. ⊎-elim (below-older S k j) (below-newest S k j) p) (below-split S k)
 
 pub union-end : {w k : ℕ} {S : ℕ → ℕ → Type 0} → Members w (Below S k) → (n : ℕ) → k ≤ n → n ≤ k → Members w (Below S n)
 union-end {w} {k} {S} m n h l = let e : k ≡ n = omega arith in subst (λ (y : ℕ). Members w (Below S y)) e m

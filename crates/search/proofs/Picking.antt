@@ -6,19 +6,16 @@ use mathlib.Core.Logic.{_≢_}
 use mathlib.Core.List.{List, [], _∷_, _++_}
 use native.Mathlib.Omega.{arith}
 use native.Mathlib.Numerals.{add-one}
-use borrow.Author.Tests.{eq-eqb, eqb-true}
 use lib.Dec.{T}
 use lib.ListN.{length, getD, set, take, length-set}
 use lib.Seq.{take-suc-set, getD-set-other, length-take-le}
 use Rattle.bits.specs.Word.{bit, Lowest}
-use Rattle.bits.proofs.Laws.{bit-pow}
 use Rattle.tables.specs.Table.{Table}
 use Rattle.tables.proofs.TableOf.{edge-out}
 use Rattle.models.specs.Model.{Model}
 use Rattle.search.specs.Lent.{Beyond}
 use Rattle.search.specs.Passes.{Members, Under, view, Left, Ready, Onward, CanNext, Picked}
-use Rattle.bits.proofs.Truths.{true-T, T-true}
-use Rattle.search.proofs.Members.{not-zero, lowest-is, lowest-least}
+use Rattle.search.proofs.Members.{members-first, not-zero, lowest-is, lowest-least}
 use Rattle.search.proofs.Given.{Given, modelFor, tableFor, labelsFor, fair}
 use Rattle.search.proofs.Useful.{Nearest, nearest}
 use Rattle.search.proofs.Pick.{Chosen, Can, Held, begin, can-some, picked, done}
@@ -45,7 +42,7 @@ pub write-start : {M : Model} {A : Table} (k initial : ℕ) (run : List ℕ) →
 write-start {M} {A} k initial run e h =
     let z : k ≡ k - 0 = omega arith in
     let b : Chosen M A k (k - 0) [] (λ t. bit initial t) (λ q. 0 ≡ q) = subst (λ (o : ℕ → Bool). Chosen M A k (k - 0) [] o (λ q. 0 ≡ q)) e (subst (λ (d : ℕ). Chosen M A k d [] (M .initial) (λ q. 0 ≡ q)) z (begin M A k h)) in
-    record { chosen = chosen-same (λ q. T (bit 1 q)) b (λ q e. true-T (bit-pow 0 q ∙ eq-eqb q 0 (sym e))) (λ q t. sym (eqb-true q 0 (sym (bit-pow 0 q) ∙ T-true (bit 1 q) t))) }
+    record { chosen = chosen-same (λ q. T (bit 1 q)) b (members-first .has) (members-first .holds) }
 
 -- after the last state the run is picked
 pub write-end : {M : Model} {A : Table} {k held next level : ℕ} {run : List ℕ} → level ≤ k → k ≤ level → Written M A k run held next level → Picked M A k (take k run)

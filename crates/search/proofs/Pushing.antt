@@ -1,16 +1,15 @@
 -- The stores of the forward pass, put together row by row. Assumes nothing.
 use Prim.Native.Nat.{ℕ, _+_, _*_, _≤_}
-use mathlib.Core.Path.{_≡_, sym, _∙_}
+use mathlib.Core.Path.{_≡_}
 use mathlib.Core.List.{List}
-use borrow.Author.Tests.{eq-eqb, eqb-true}
 use lib.Dec.{T}
 use lib.ListN.{getD}
 use Rattle.bits.specs.Word.{bit}
-use Rattle.bits.proofs.Laws.{bit-pow}
 use Rattle.tables.specs.Table.{Table}
 use Rattle.search.specs.Passes.{Members, Into, OnLevel, Step, Below, At, Along, FromRow}
-use Rattle.bits.proofs.Truths.{true-T, T-true}
-use Rattle.search.proofs.Steps.{step-none, step-same, same-level, below-map}
+use Rattle.search.proofs.Members.{members-first}
+use Rattle.search.proofs.Ranges.{below-map}
+use Rattle.search.proofs.Steps.{step-none, step-same, same-level}
 
 pub at-map : {P Q : ℕ → Type 0} {t p i : ℕ} → (P p → Q p) → At P t p i → At Q t p i
 at-map f x = record { is = f (x .is); place = x .place }
@@ -39,8 +38,7 @@ module _ (A : Table) (letters : List ℕ) (succ : ℕ) where
   -- from table state 0, whose set is 1
   pub first-step : {c : ℕ} {a b : List ℕ} (n : ℕ) → Step 0 a b (Below (Along A letters succ (λ q. T (bit 1 q))) n) c → Step 0 a b (Below (Along A letters succ (λ q. 0 ≡ q)) n) c
   first-step n s =
-      rows-step (λ q. T (bit 1 q)) (λ q. 0 ≡ q) n (λ q h. sym (eqb-true q 0 (sym (bit-pow 0 q) ∙ T-true (bit 1 q) h)))
-      (λ q e. true-T (bit-pow 0 q ∙ eq-eqb q 0 (sym e))) s
+      rows-step (λ q. T (bit 1 q)) (λ q. 0 ≡ q) n (members-first .holds) (members-first .has) s
 
 -- who is on the level stays there and nobody else comes, so a row's step over the marks as they are is one over the marks as they were
 pub row-then : (A : Table) (letters successors : List ℕ) (states s : ℕ) {j c c′ : ℕ} {a b d : List ℕ} {S : ℕ → Type 0} → 1 ≤ j → Step j a b S c

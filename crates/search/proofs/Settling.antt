@@ -10,7 +10,8 @@ use Rattle.bits.specs.Word.{bit}
 use Rattle.tables.specs.Table.{Table}
 use Rattle.search.specs.Passes.{Members, Under, Leads, view, OnLevel, Kept, Step, Below, At, Led, SeedRow, SettleRow}
 use Rattle.search.proofs.Members.{members-same}
-use Rattle.search.proofs.Steps.{step-none, step-same, below-map}
+use Rattle.search.proofs.Ranges.{below-map}
+use Rattle.search.proofs.Steps.{step-none, step-same}
 use Rattle.search.proofs.Pushing.{at-map}
 
 module _ (A : Table) (letters : List ℕ) (succ : ℕ) (m u : List ℕ) (j : ℕ) where

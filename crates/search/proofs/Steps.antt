@@ -9,6 +9,7 @@ use lib.ListN.{length, getD, set, length-set}
 use lib.Seq.{getD-set-same, getD-set-other}
 use Rattle.search.specs.Right.{Count, none, counted, passed}
 use Rattle.search.specs.Passes.{Nz, Step, Below}
+use Rattle.search.proofs.Ranges.{below-older, below-newest, below-split}
 use Rattle.search.proofs.Tally.{count-map}
 
 -- one more place
@@ -95,13 +96,7 @@ pub below-none : (j : ℕ) (a : List ℕ) (S : ℕ → ℕ → Type 0) → Step 
 below-none j a S = step-none j a (Below S 0) (λ i e. absurd (omega (arith, e .below)))
 
 pub below-next : {j : ℕ} {a b d : List ℕ} {S : ℕ → ℕ → Type 0} {k c c′ : ℕ} → Step j a b (Below S k) c → Step j b d (S k) c′ → Step j a d (Below S (k + 1)) (c + c′)
-below-next {S = S} {k = k} x y =
-    step-then x y (Below S (k + 1)) (λ i e. record { at = e .at; below = omega (arith, e .below); holds = e .holds })
-    (λ i e. record { at = k; below = omega arith; holds = e }) (λ i e. go i e (ℕ-discrete (e .at) k))
-  where
-    go : (i : ℕ) (e : Below S (k + 1) i) → Dec (e .at ≡ k) → Below S k i ⊎ S k i
-    go i e (yes h) = inr (subst (λ (y : ℕ). S y i) h (e .holds))
-    go i e (no h) = inl (record { at = e .at; below = omega (arith, e .below); holds = e .holds })
+below-next {S = S} {k = k} x y = step-then x y (Below S (k + 1)) (below-older S k) (below-newest S k) (below-split S k)
 
 pub below-end : {j : ℕ} {a b : List ℕ} {S : ℕ → ℕ → Type 0} {k c : ℕ} → Step j a b (Below S k) c → (n : ℕ) → k ≤ n → n ≤ k → Step j a b (Below S n) c
 below-end {j} {a} {b} {S} {k} {c} x n h l = let e : k ≡ n = omega arith in subst (λ (y : ℕ). Step j a b (Below S y) c) e x
@@ -109,6 +104,3 @@ below-end {j} {a} {b} {S} {k} {c} x n h l = let e : k ≡ n = omega arith in sub
 -- who is on level j stays there, and nobody else comes
 pub same-level : {j : ℕ} {a b : List ℕ} {S : ℕ → Type 0} {c : ℕ} → Step j a b S c → 1 ≤ j → (i : ℕ) → ((getD b i 0 ≡ j) ↔ (getD a i 0 ≡ j))
 same-level {j} {a} {b} {S} x l i = (λ e. ⊎-elim (λ h. omega arith) (λ h. absurd (omega arith)) (x .only i), λ e. ⊎-elim (λ h. omega arith) (λ h. absurd (omega arith)) (x .only i))
-
-pub below-map : {S S′ : ℕ → ℕ → Type 0} {k i : ℕ} → ((t : ℕ) → S t i → S′ t i) → Below S k i → Below S′ k i
-below-map f e = record { at = e .at; below = e .below; holds = f (e .at) (e .holds) }
