@@ -12,6 +12,10 @@
 #include <stddef.h>
 #include <stdint.h>
 
+#ifdef __cplusplus
+extern "C" {
+#endif
+
 typedef struct { uint64_t refused, place, weight; } gc_rule;
 typedef struct { uint64_t refused, place, weight, finals; } gc_built;
 typedef struct { uint64_t refused, place, accepts; } gc_judged;
@@ -31,4 +35,8 @@ gc_searched gc_search(const uint8_t *rule, size_t rule_len, const uint8_t *model
 /* rulecheck's line for one input (without the closing newline) into out, which holds 16,384 bytes or more;
  * the answer is the line's length, 0 where out is shorter than that, and out is then untouched */
 uint64_t gc_rulecheck(const uint8_t *input, size_t input_len, uint8_t *out, size_t out_len);
+
+#ifdef __cplusplus
+}
+#endif
 #endif

@@ -1,0 +1,53 @@
+/* A host in C: searches a small model for a run that matches a rule, and shows a refusal. From the repository's root:
+ *
+ *     rt staticlib exports
+ *     cc -Iinclude examples/check.c target/staticlib/libexports.a -o target/check && target/check
+ */
+#include "gongcollar.h"
+
+#include <inttypes.h>
+#include <stdio.h>
+
+enum { ENTRIES = 4096 };
+
+/* p0;{p1[*];p2}: p0, then any number of p1, then p2 */
+static const uint8_t rule[] = {0x12, 0x10, 0x01, 0x00, 0x12, 0x17, 0x10, 0x01, 0x01, 0x10, 0x01, 0x02};
+
+/* each state: its kind, its letter, whether it is initial, and the set of its successors in 8 bytes */
+static const uint8_t model[] = {
+    0x20, 0x01, 0x01, 0x02, 0, 0, 0, 0, 0, 0, 0, /* state 0: p0, initial, goes to state 1 */
+    0x20, 0x02, 0x00, 0x06, 0, 0, 0, 0, 0, 0, 0, /* state 1: p1, goes to states 1 and 2 */
+    0x20, 0x04, 0x00, 0x00, 0, 0, 0, 0, 0, 0, 0, /* state 2: p2, goes nowhere */
+};
+
+/* what a search is lent; it can be lent again and again */
+static uint64_t table[ENTRIES];
+static uint16_t work1[ENTRIES], work2[ENTRIES];
+static uint8_t run[ENTRIES];
+
+static gc_searched search(size_t rule_len, size_t model_len) {
+    return gc_search(rule, rule_len, model, model_len, table, ENTRIES, work1, ENTRIES, work2, ENTRIES, run, ENTRIES);
+}
+
+static void show(const char *what, gc_searched answer) {
+    printf("%s: ", what);
+    if (answer.refused) {
+        printf("refused %" PRIu64 " at %" PRIu64 "\n", answer.refused, answer.place);
+        return;
+    }
+    if (!answer.found) {
+        printf("no run of any length matches; %" PRIu64 " pairs\n", answer.pairs);
+        return;
+    }
+    printf("a run of %" PRIu64 " states matches:", answer.length);
+    for (uint64_t i = 0; i < answer.length; i++)
+        printf(" %d", run[i]);
+    printf("; %" PRIu64 " pairs\n", answer.pairs);
+}
+
+int main(void) {
+    show("the whole model", search(sizeof rule, sizeof model));
+    show("a model with no states", search(sizeof rule, 0));
+    show("a rule without its last byte", search(sizeof rule - 1, sizeof model));
+    return 0;
+}

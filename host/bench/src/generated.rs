@@ -1,0 +1,86 @@
+//! Generated rules and models.
+
+use crate::timing::{micros, several, Times};
+use cases::{letters, models, rules, Draws};
+use gongcollar::{Table, Workspace, ENTRIES, STATES};
+use std::time::Duration;
+
+const CASES: usize = 1000;
+/// Each call is made so many times, of which the middle one counts.
+const CALLS: usize = 5;
+
+struct Case {
+    rule: Vec<u8>,
+    model: Vec<u8>,
+}
+
+/// Accepted rules, half of them with a model of which some run follows the rule's table, half with any model.
+fn cases(seed: u64) -> Vec<Case> {
+    let mut draws = Draws::new(seed);
+    (0..CASES).map(|at| case(&mut draws, at % 2 == 0)).collect()
+}
+
+fn case(draws: &mut Draws, followed: bool) -> Case {
+    let rule = rules::accepted(draws);
+    let model = match Table::build(&rule) {
+        Ok(table) if followed => {
+            let letters = letters::followed(draws, table.entries(), table.finals(), STATES);
+            models::spelling(draws, &letters)
+        }
+        _ => models::accepted(draws),
+    };
+    Case { rule, model }
+}
+
+/// Prints the times of build and search over the generated cases.
+pub fn run(seed: u64) {
+    let cases = cases(seed);
+    println!();
+    println!("{CASES} generated rules and models, seed {seed}. Each call is made {CALLS} times, of which the middle one");
+    println!("counts. {}", outcomes(&cases));
+    println!();
+    println!(
+        "{:<20}{:>10}{:>10}{:>10}{:>12}",
+        "", "median", "90 %", "largest", "all"
+    );
+    let mut table = vec![0; ENTRIES];
+    row("build, proved", &cases, |case| {
+        gongcollar::build_into(&case.rule, &mut table).is_ok()
+    });
+    row("build, plain", &cases, |case| {
+        plain::build(&case.rule, ENTRIES).is_ok()
+    });
+    let mut workspace = Workspace::new();
+    row("search, proved", &cases, |case| {
+        workspace.search(&case.rule, &case.model).is_ok()
+    });
+    row("search, plain", &cases, |case| {
+        plain::search(&case.rule, &case.model, [ENTRIES; 4]).is_ok()
+    });
+}
+
+/// How many of the searches find something.
+fn outcomes(cases: &[Case]) -> String {
+    let mut workspace = Workspace::new();
+    let mut found = 0;
+    let mut longest = 0;
+    for case in cases {
+        if let Ok(searched) = workspace.search(&case.rule, &case.model) {
+            found += usize::from(searched.run.is_some());
+            longest = longest.max(searched.run.map_or(0, <[u8]>::len));
+        }
+    }
+    format!("{found} searches find a run, the longest of {longest} states.")
+}
+
+fn row<T>(name: &str, cases: &[Case], mut call: impl FnMut(&Case) -> T) {
+    let middle = |case| several(CALLS, || call(case)).median();
+    let times = Times::of(cases.iter().map(middle).collect::<Vec<Duration>>());
+    println!(
+        "{name:<20}{:>10}{:>10}{:>10}{:>12}",
+        micros(times.median()),
+        micros(times.ninetieth()),
+        micros(times.largest()),
+        micros(times.total())
+    );
+}

@@ -1,0 +1,33 @@
+//! Times of the proved library and of the plain one on the same inputs: `bench [SEED]`.
+
+mod generated;
+mod hard;
+mod timing;
+
+use cases::draws::seed_given;
+use std::process::ExitCode;
+
+const SEED: u64 = 20_260_110;
+
+fn main() -> ExitCode {
+    let Some(seed) = seed_given(SEED) else {
+        eprintln!("usage: bench [SEED], a decimal number");
+        return ExitCode::from(2);
+    };
+    println!("Times in microseconds, of one call each. A call does all that it promises: it reads the rule and");
+    println!("the model, and clears what is lent to it. The proved library works in lent slices; the plain one");
+    println!("has no slices to clear, and its time includes the memory that it takes for itself.");
+    if let Some(processor) = processor() {
+        println!("Processor: {processor}");
+    }
+    generated::run(seed);
+    ExitCode::from(u8::from(!hard::run()))
+}
+
+/// The name of the processor, where the system tells it.
+fn processor() -> Option<String> {
+    let told = std::fs::read_to_string("/proc/cpuinfo").ok()?;
+    let line = told.lines().find(|line| line.starts_with("model name"))?;
+    let (_, name) = line.split_once(':')?;
+    Some(name.trim().to_string())
+}

@@ -1,0 +1,130 @@
+//! Accepted inputs that take long: for measuring, and for a small stack.
+
+use crate::hostile::{joined_left, joined_right, nested};
+use crate::rules::kind::*;
+use crate::rules::{ANY, P0};
+
+/// A letter of the formula false.
+const NEVER: [u8; 2] = [LETTER, FALSE];
+
+/// A rule with a name to print.
+#[derive(Debug, Clone)]
+pub struct Named {
+    /// What it is.
+    pub name: &'static str,
+    /// Its bytes.
+    pub bytes: Vec<u8>,
+}
+
+fn named(name: &'static str, bytes: Vec<u8>) -> Named {
+    Named { name, bytes }
+}
+
+/// `{true;..;true}[*];p0` with so many of true: p0 after any number of rounds. It weighs two for each letter.
+pub fn cycle_then_p0(round: usize) -> Vec<u8> {
+    cycle_then(round, &P0)
+}
+
+/// The same with a letter that there is not in the place of p0, so that nothing matches.
+pub fn cycle_then_never(round: usize) -> Vec<u8> {
+    cycle_then(round, &NEVER)
+}
+
+fn cycle_then(round: usize, last: &[u8]) -> Vec<u8> {
+    let mut rule = vec![THEN, STAR];
+    rule.extend(joined_right(THEN, &ANY, round));
+    rule.extend_from_slice(last);
+    rule
+}
+
+/// 32 times true: weight 64, and every run of 32 states matches.
+pub fn row_of_any() -> Vec<u8> {
+    joined_left(THEN, &ANY, 32)
+}
+
+/// 31 times `true[*]`, then a letter that there is not: weight 64, a label from nearly every state to every later one,
+/// and no match.
+pub fn dense_and_never() -> Vec<u8> {
+    let mut rule = vec![THEN];
+    rule.extend(joined_left(THEN, &nested(STAR, 1, &ANY), 31));
+    rule.extend(NEVER);
+    rule
+}
+
+/// Rules that keep the plain judge busy.
+pub fn for_the_judge() -> Vec<Named> {
+    let once = nested(STAR, 4, &P0);
+    let empties = [STAR, PLUS, EMPTY];
+    vec![
+        named("252 nested [*] of p0", nested(STAR, 252, &P0)),
+        named("252 nested [+] of p0", nested(PLUS, 252, &P0)),
+        named(
+            "64 empties under ; with 128 repetitions",
+            joined_left(THEN, &empties, 64),
+        ),
+        named(
+            "64 empties under : with 128 repetitions",
+            joined_left(OVERLAP, &empties, 64),
+        ),
+        named(
+            "32 p0[*][*][*][*] under ;, to the right",
+            joined_right(THEN, &once, 32),
+        ),
+        named(
+            "32 p0[*][*][*][*] under :, to the left",
+            joined_left(OVERLAP, &once, 32),
+        ),
+        named(
+            "32 empties under | with 192 repetitions",
+            joined_left(CHOICE, &nested(PLUS, 6, &[EMPTY]), 32),
+        ),
+        named("128 empties under &&", joined_left(BOTH, &[EMPTY], 128)),
+        named(
+            "252 nested not",
+            nested(LETTER, 1, &nested(NOT, 252, &[PROPOSITION, 0])),
+        ),
+    ]
+}
+
+/// Rules that keep the builder busy.
+pub fn for_the_builder() -> Vec<Named> {
+    let within = [&[WITHIN, WITHIN, EMPTY, EMPTY, THEN, EMPTY], &ANY[..]].concat();
+    vec![
+        named("252 nested [*] of p0", nested(STAR, 252, &P0)),
+        named(
+            "252 nested not",
+            nested(LETTER, 1, &nested(NOT, 252, &[PROPOSITION, 0])),
+        ),
+        named(
+            "127 formulas under and",
+            nested(LETTER, 1, &joined_left(AND, &[TRUE], 127)),
+        ),
+        named(
+            "128 empties under &&, to the left",
+            joined_left(BOTH, &[EMPTY], 128),
+        ),
+        named(
+            "128 empties under &&, to the right",
+            joined_right(BOTH, &[EMPTY], 128),
+        ),
+        named("6 letters under &&", joined_left(BOTH, &P0, 6)),
+        named("& of & and ;", within),
+        named(
+            "32 letters under ;, to the left",
+            joined_left(THEN, &ANY, 32),
+        ),
+        named(
+            "32 letters under ;, to the right",
+            joined_right(THEN, &ANY, 32),
+        ),
+        named(
+            "32 starred letters under :",
+            joined_left(OVERLAP, &nested(STAR, 4, &P0), 32),
+        ),
+        named(
+            "64 empties under ; with 128 repetitions",
+            joined_left(THEN, &[STAR, PLUS, EMPTY], 64),
+        ),
+        named("31 true[*] and false under ;", dense_and_never()),
+    ]
+}

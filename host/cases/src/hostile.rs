@@ -1,0 +1,246 @@
+//! Inputs at the limits and past them: nesting as deep as the bytes allow, weights past every word, cut records.
+
+use crate::models::{self, bytes_of, State, MOST_BYTES, MOST_STATES, RECORD_BYTES};
+use crate::rules::kind::*;
+use crate::rules::{ANY, MOST_BYTES as MOST_RULE_BYTES, P0};
+
+/// The operators with two rules as operands.
+const PAIRS: [u8; 5] = [THEN, OVERLAP, CHOICE, WITHIN, BOTH];
+
+/// A kind so many times before what it is of.
+pub fn nested(kind: u8, times: usize, operand: &[u8]) -> Vec<u8> {
+    let mut rule = vec![kind; times];
+    rule.extend_from_slice(operand);
+    rule
+}
+
+/// So many operands joined such that the first is the deepest.
+pub fn joined_left(kind: u8, operand: &[u8], count: usize) -> Vec<u8> {
+    nested(kind, count - 1, &operand.repeat(count))
+}
+
+/// So many operands joined such that the last is the deepest.
+pub fn joined_right(kind: u8, operand: &[u8], count: usize) -> Vec<u8> {
+    let link = nested(kind, 1, operand);
+    [link.repeat(count - 1), operand.to_vec()].concat()
+}
+
+/// All hostile rules.
+pub fn rules() -> Vec<Vec<u8>> {
+    [
+        repetitions(),
+        formulas(),
+        pairs(),
+        at_the_weight(),
+        past_every_word(),
+        too_long(),
+    ]
+    .concat()
+}
+
+/// The deepest nesting of repetitions, complete and cut.
+fn repetitions() -> Vec<Vec<u8>> {
+    let mut rules = Vec::new();
+    for kind in [STAR, PLUS] {
+        rules.push(nested(kind, MOST_RULE_BYTES - 1, &[EMPTY]));
+        rules.push(nested(kind, MOST_RULE_BYTES - 2, &ANY));
+        rules.push(nested(kind, MOST_RULE_BYTES - 3, &P0));
+        rules.push(nested(kind, MOST_RULE_BYTES, &[]));
+        rules.push(nested(kind, MOST_RULE_BYTES - 1, &[TRUE]));
+    }
+    rules.push([[STAR, PLUS].repeat(126), P0.to_vec()].concat());
+    rules
+}
+
+/// The deepest nesting of formulas, complete and cut.
+fn formulas() -> Vec<Vec<u8>> {
+    let mut rules = Vec::new();
+    let mut letter = |formula: Vec<u8>| rules.push(nested(LETTER, 1, &formula));
+    letter(nested(NOT, MOST_RULE_BYTES - 2, &[TRUE]));
+    letter(nested(NOT, MOST_RULE_BYTES - 3, &[PROPOSITION, 5]));
+    letter(nested(NOT, MOST_RULE_BYTES - 1, &[]));
+    letter(nested(NOT, MOST_RULE_BYTES - 2, &[EMPTY]));
+    for kind in [AND, OR] {
+        letter(joined_left(kind, &[TRUE], 127));
+        letter(joined_right(kind, &[FALSE], 127));
+        letter(joined_right(kind, &[PROPOSITION, 3], 84));
+        letter(nested(kind, MOST_RULE_BYTES - 1, &[]));
+        letter(joined_left(kind, &[PROPOSITION, 6], 80));
+    }
+    rules
+}
+
+/// The deepest nesting of each operator with two operands, complete and cut.
+fn pairs() -> Vec<Vec<u8>> {
+    let mut rules = Vec::new();
+    for kind in PAIRS {
+        rules.push(joined_left(kind, &[EMPTY], 128));
+        rules.push(joined_right(kind, &[EMPTY], 128));
+        rules.push(joined_left(kind, &ANY, 85));
+        rules.push(joined_right(kind, &ANY, 85));
+        rules.push(nested(kind, MOST_RULE_BYTES, &[]));
+        rules.push(nested(kind, MOST_RULE_BYTES - 1, &[EMPTY]));
+        rules.push(nested(kind, 127, &[EMPTY; 127]));
+        rules.push(nested(kind, 126, &[EMPTY; 128]));
+    }
+    rules
+}
+
+/// Rules that weigh 64 or little less, as long and as wide as can be, and 65.
+fn at_the_weight() -> Vec<Vec<u8>> {
+    let twice = [STAR, PLUS, EMPTY];
+    let letter = nested(STAR, 4, &P0);
+    let mut rules = vec![
+        joined_left(CHOICE, &nested(STAR, 6, &[EMPTY]), 32),
+        joined_right(CHOICE, &nested(PLUS, 6, &[EMPTY]), 32),
+        joined_left(BOTH, &twice, 64),
+        joined_right(BOTH, &twice, 64),
+        joined_left(BOTH, &P0, 6),
+        joined_right(BOTH, &ANY, 6),
+        joined_left(BOTH, &ANY, 7),
+        joined_left(CHOICE, &joined_left(THEN, &P0, 16), 2),
+        joined_left(THEN, &[EMPTY], 65),
+        [&[WITHIN, WITHIN, EMPTY, EMPTY, THEN, EMPTY], &ANY[..]].concat(),
+        [&[WITHIN, THEN, EMPTY], &ANY[..], &[WITHIN, EMPTY, EMPTY]].concat(),
+        [&[WITHIN, WITHIN, EMPTY, EMPTY, STAR], &ANY[..]].concat(),
+        [WITHIN, EMPTY]
+            .repeat(2)
+            .into_iter()
+            .chain([EMPTY])
+            .collect(),
+        [WITHIN, EMPTY]
+            .repeat(3)
+            .into_iter()
+            .chain([EMPTY])
+            .collect(),
+    ];
+    for kind in [THEN, OVERLAP] {
+        rules.push(joined_left(kind, &twice, 64));
+        rules.push(joined_right(kind, &twice, 64));
+        rules.push(joined_left(kind, &letter, 32));
+        rules.push(joined_right(kind, &letter, 32));
+        rules.push(joined_left(kind, &ANY, 32));
+        rules.push(joined_right(kind, &ANY, 33));
+    }
+    rules
+}
+
+/// Weights of 2 to the 7th up to past the 64th, with and without a rest that a word which wraps would show.
+fn past_every_word() -> Vec<Vec<u8>> {
+    let mut rules = Vec::new();
+    for power in [7, 8, 9, 15, 16, 17, 31, 32, 33, 63, 64, 65, 85] {
+        let heavy = joined_left(BOTH, &ANY, power);
+        rules.push([&[THEN, EMPTY][..], &heavy].concat());
+        rules.push([&[CHOICE][..], &heavy, &[EMPTY]].concat());
+        rules.push([&[STAR][..], &heavy].concat());
+        rules.push([&heavy[..], &[EMPTY]].concat());
+        rules.push([&[THEN][..], &joined_left(THEN, &[EMPTY], 31), &heavy].concat());
+        rules.push(heavy);
+    }
+    rules
+}
+
+/// Rules of more than 255 bytes, some of which a short counter of bytes would take for shorter ones.
+fn too_long() -> Vec<Vec<u8>> {
+    let mut rules: Vec<Vec<u8>> = [256, 257, 300, 511, 512, 65_536, 65_537, 70_000]
+        .iter()
+        .map(|&length| nested(EMPTY, length, &[]))
+        .collect();
+    rules.push(nested(STAR, 255, &[EMPTY]));
+    rules.push(vec![0xFF; 256]);
+    rules.push(vec![0; 1000]);
+    rules
+}
+
+/// All hostile models.
+pub fn models() -> Vec<Vec<u8>> {
+    [too_many(), cuts(), faults(), strays()].concat()
+}
+
+/// 64 states and more.
+fn too_many() -> Vec<Vec<u8>> {
+    let full = models::full(MOST_STATES);
+    let mut models = vec![full.clone(), models::ring(MOST_STATES, None)];
+    for after in [&[0x20][..], &[0], &[0xFF], &full[..RECORD_BYTES], &full] {
+        models.push([&full[..], after].concat());
+    }
+    models.push(full.repeat(100));
+    models
+}
+
+/// A model cut at every byte of its first and of its last records.
+fn cuts() -> Vec<Vec<u8>> {
+    let full = models::full(MOST_STATES);
+    let places = (0..3 * RECORD_BYTES).chain(MOST_BYTES - RECORD_BYTES..MOST_BYTES);
+    places.map(|length| full[..length].to_vec()).collect()
+}
+
+/// A fault in each field of the first, a middle and the last record of models of several sizes.
+fn faults() -> Vec<Vec<u8>> {
+    let mut models = Vec::new();
+    for count in [1, 2, 63, MOST_STATES] {
+        let good = models::full(count);
+        for state in [0, count / 2, count - 1] {
+            for (field, byte) in FAULTS {
+                let mut model = good.clone();
+                model[state * RECORD_BYTES + field] = byte;
+                models.push(model);
+            }
+        }
+    }
+    models
+}
+
+/// Fields of a record with bytes that are wrong there, or just right.
+const FAULTS: [(usize, u8); 12] = [
+    (0, 0x00),
+    (0, 0x1F),
+    (0, 0x21),
+    (0, 0x30),
+    (1, 63),
+    (1, 64),
+    (1, 0xFF),
+    (2, 0),
+    (2, 2),
+    (2, 0xFF),
+    (3, 0xFF),
+    (10, 0x80),
+];
+
+/// Successors that do not exist, alone and beside other faults.
+fn strays() -> Vec<Vec<u8>> {
+    let state = |successors| State {
+        letter: 0,
+        flag: 0,
+        successors,
+    };
+    let mut models = vec![
+        bytes_of(&[state(0), state(0b100), state(0b1000)]),
+        bytes_of(&[state(1 << 63), state(1 << 2)]),
+    ];
+    for count in [1, 2, 31, 62, 63] {
+        let mut states = vec![state(0); count];
+        states[count - 1] = state(1 << count);
+        let stray = bytes_of(&states);
+        for after in [&[][..], &[0x21], &[0x20], &[0x20, 64], &[0x20, 0, 2]] {
+            models.push([&stray[..], after].concat());
+        }
+    }
+    models
+}
+
+#[cfg(test)]
+mod tests {
+    use super::*;
+
+    #[test]
+    fn complete_rules_fill_the_limit() {
+        assert_eq!(nested(STAR, 254, &[EMPTY]).len(), MOST_RULE_BYTES);
+        assert_eq!(joined_left(THEN, &[EMPTY], 128).len(), MOST_RULE_BYTES);
+        assert_eq!(joined_right(THEN, &[EMPTY], 128).len(), MOST_RULE_BYTES);
+        assert_eq!(
+            joined_left(THEN, &[STAR, PLUS, EMPTY], 64).len(),
+            MOST_RULE_BYTES
+        );
+    }
+}

@@ -1,0 +1,126 @@
+//! The calls of [`gongcollar::raw`] as the plain library has them, the later content of lent slices included.
+
+use crate::lent::Slices;
+use gongcollar::raw::{Built, Judged, Model, Rule, Searched, Stepped};
+use gongcollar::{ENTRIES, LINE_BYTES};
+use plain::Refusal;
+
+/// What `read_rule` should answer.
+pub fn read_rule(rule: &[u8]) -> Rule {
+    match plain::read_rule(rule) {
+        Ok(read) => Rule {
+            weight: read.weight,
+            ..Rule::default()
+        },
+        Err(Refusal { number, place }) => Rule {
+            refused: number,
+            place,
+            ..Rule::default()
+        },
+    }
+}
+
+/// What `build` should answer and write.
+pub fn build(rule: &[u8], table: &mut [u64]) -> Built {
+    match plain::build(rule, table.len()) {
+        Ok(built) => {
+            table[..ENTRIES].copy_from_slice(&built.labels);
+            Built {
+                weight: built.weight,
+                finals: built.finals,
+                ..Built::default()
+            }
+        }
+        Err(Refusal { number, place }) => Built {
+            refused: number,
+            place,
+            ..Built::default()
+        },
+    }
+}
+
+/// What `judge` should answer.
+pub fn judge(rule: &[u8], letters: &[u8]) -> Judged {
+    match plain::judge(rule, letters) {
+        Ok(accepts) => Judged {
+            accepts: accepts.into(),
+            ..Judged::default()
+        },
+        Err(Refusal { number, place }) => Judged {
+            refused: number,
+            place,
+            ..Judged::default()
+        },
+    }
+}
+
+/// What `step` should answer: after a refusal the set is as it came.
+pub fn step(set: u64, finals: u64, table: &[u64], letter: u8) -> Stepped {
+    match plain::step(set, finals, table, letter) {
+        Ok((set, matched)) => Stepped {
+            set,
+            matched: matched.into(),
+            ..Stepped::default()
+        },
+        Err(Refusal { number, place }) => Stepped {
+            refused: number,
+            place,
+            set,
+            ..Stepped::default()
+        },
+    }
+}
+
+/// What `read_model` should answer.
+pub fn read_model(model: &[u8]) -> Model {
+    match plain::read_model(model) {
+        Ok(read) => Model {
+            states: read.letters.len() as u64,
+            ..Model::default()
+        },
+        Err(Refusal { number, place }) => Model {
+            refused: number,
+            place,
+            ..Model::default()
+        },
+    }
+}
+
+/// What `search` should answer and write.
+pub fn search(rule: &[u8], model: &[u8], slices: &mut Slices) -> Searched {
+    match plain::search(rule, model, slices.lengths()) {
+        Ok(searched) => {
+            slices.work1[..ENTRIES].fill(0);
+            slices.work2[..ENTRIES].fill(0);
+            build(rule, &mut slices.table);
+            found(searched, &mut slices.run)
+        }
+        Err(Refusal { number, place }) => Searched {
+            refused: number,
+            place,
+            ..Searched::default()
+        },
+    }
+}
+
+fn found(searched: plain::Searched, output: &mut [u8]) -> Searched {
+    let run = searched.run.as_deref();
+    let shown = run.unwrap_or_default();
+    output[..shown.len()].copy_from_slice(shown);
+    Searched {
+        found: run.is_some().into(),
+        length: shown.len() as u64,
+        pairs: searched.pairs,
+        ..Searched::default()
+    }
+}
+
+/// What `rulecheck` should answer and write.
+pub fn rulecheck(input: &[u8], out: &mut [u8]) -> u64 {
+    if out.len() < LINE_BYTES {
+        return 0;
+    }
+    let line = plain::line(input);
+    out[..line.len()].copy_from_slice(line.as_bytes());
+    line.len() as u64
+}

@@ -1,0 +1,36 @@
+//! Gongcollar checks sequence rules, and every call of it is proved.
+//!
+//! A rule is a sequence expression of PSL, and a model a small set of states with letters and successors; both are
+//! given as bytes in the house form. [`Workspace::search`] tells whether some run of the model spells a sequence that
+//! the rule accepts, and shows the first shortest one. A [`Table`] and a [`Walker`] follow events as they come, and
+//! [`judge`] decides a short sequence with no table. Bad input is a [`Refusal`] with its number and its place.
+//!
+//! This crate is a thin layer over the proved static library. What it adds is Rust's types: nothing is decided here.
+//!
+//! No call panics, whatever it is given. A call that refuses leaves all that was lent to it as it was.
+
+#![deny(missing_docs)]
+#![deny(unsafe_code)]
+
+mod lines;
+mod models;
+#[allow(unsafe_code)]
+pub mod raw;
+mod refusal;
+mod rules;
+mod tables;
+
+pub use lines::{rulecheck, rulecheck_into};
+pub use models::{read_model, search_into, Lent, ModelInfo, Searched, Workspace};
+pub use refusal::{Kind, Refusal};
+pub use rules::{judge, read_rule, RuleInfo};
+pub use tables::{build_into, Built, Stepped, Table, Walker};
+
+/// The most states that a table or a model has.
+pub const STATES: usize = 64;
+
+/// The entries that a call uses of each lent slice; a shorter one is refused.
+pub const ENTRIES: usize = STATES * STATES;
+
+/// The bytes that rulecheck asks for its line.
+pub const LINE_BYTES: usize = 16_384;

@@ -1,0 +1,153 @@
+//! Models: what is known of one, and the search for a run that matches a rule.
+
+pub use crate::raw::Lent;
+
+use crate::raw;
+use crate::{Refusal, ENTRIES};
+
+/// What is known of an accepted model.
+#[derive(Debug, Clone, Copy, PartialEq, Eq)]
+#[non_exhaustive]
+pub struct ModelInfo {
+    /// The number of states, 0 to 64.
+    pub states: u64,
+}
+
+/// Reads a model.
+///
+/// ```
+/// let one = [0x20, 0x01, 0x01, 0x01, 0, 0, 0, 0, 0, 0, 0];
+/// assert_eq!(gongcollar::read_model(&one)?.states, 1);
+/// assert_eq!(gongcollar::read_model(&one[..10]).unwrap_err().number(), 13);
+/// # Ok::<(), gongcollar::Refusal>(())
+/// ```
+pub fn read_model(model: &[u8]) -> Result<ModelInfo, Refusal> {
+    let answer = raw::read_model(model);
+    let info = ModelInfo {
+        states: answer.states,
+    };
+    Refusal::unless(answer.refused, answer.place, info)
+}
+
+/// What a search says.
+#[derive(Debug, Clone, Copy, PartialEq, Eq)]
+#[non_exhaustive]
+pub struct Searched<'a> {
+    /// The first shortest run that matches, by the numbers of its states; or that no run of any length does.
+    pub run: Option<&'a [u8]>,
+    /// The number of pairs of a model state and a table state that were reached.
+    pub pairs: u64,
+}
+
+/// Searches the model for a run that matches the rule, over lent slices of [`ENTRIES`] entries or more each.
+///
+/// After an answer the table slice begins with the rule's table, the first 4,096 entries of the working slices are 0,
+/// and the output begins with the run; all other entries are as they were. A refusal changes nothing.
+///
+/// ```
+/// use gongcollar::{search_into, Lent, ENTRIES};
+///
+/// let (mut table, mut work1, mut work2) = ([0; ENTRIES], [0; ENTRIES], [0; ENTRIES]);
+/// let mut run = [0; ENTRIES];
+/// let one = [0x20, 0x01, 0x01, 0x01, 0, 0, 0, 0, 0, 0, 0];
+/// let searched = search_into(&[0x10, 0x01, 0x00], &one, Lent {
+///     table: &mut table,
+///     work1: &mut work1,
+///     work2: &mut work2,
+///     run: &mut run,
+/// })?;
+/// assert_eq!(searched.run, Some(&[0][..]));
+/// # Ok::<(), gongcollar::Refusal>(())
+/// ```
+pub fn search_into<'a>(
+    rule: &[u8],
+    model: &[u8],
+    mut lent: Lent<'a>,
+) -> Result<Searched<'a>, Refusal> {
+    let answer = raw::search(rule, model, &mut lent);
+    let output: &'a [u8] = lent.run;
+    let run = (answer.found != 0).then(|| front(output, answer.length));
+    let searched = Searched {
+        run,
+        pairs: answer.pairs,
+    };
+    Refusal::unless(answer.refused, answer.place, searched)
+}
+
+/// The first entries of a slice. A length that is given back always fits, so that the other case cannot arise.
+pub(crate) fn front(slice: &[u8], length: u64) -> &[u8] {
+    let end = usize::try_from(length).unwrap_or(usize::MAX);
+    slice.get(..end).unwrap_or(slice)
+}
+
+/// The four slices that a search needs, to be used for one search after another.
+///
+/// ```
+/// use gongcollar::Workspace;
+///
+/// // p0;{p1[*];p2}
+/// let rule = [0x12, 0x10, 0x01, 0x00, 0x12, 0x17, 0x10, 0x01, 0x01, 0x10, 0x01, 0x02];
+/// let model = [
+///     0x20, 0x01, 0x01, 0x02, 0, 0, 0, 0, 0, 0, 0, // p0, initial, goes to state 1
+///     0x20, 0x02, 0x00, 0x06, 0, 0, 0, 0, 0, 0, 0, // p1, goes to states 1 and 2
+///     0x20, 0x04, 0x00, 0x00, 0, 0, 0, 0, 0, 0, 0, // p2, goes nowhere
+/// ];
+/// let mut workspace = Workspace::new();
+/// let searched = workspace.search(&rule, &model)?;
+/// assert_eq!(searched.run, Some(&[0, 1, 2][..]));
+/// assert_eq!(searched.pairs, 3);
+/// # Ok::<(), gongcollar::Refusal>(())
+/// ```
+#[derive(Debug, Clone)]
+pub struct Workspace {
+    table: Vec<u64>,
+    work1: Vec<u16>,
+    work2: Vec<u16>,
+    run: Vec<u8>,
+}
+
+impl Workspace {
+    /// Slices of as many entries as a search asks for.
+    pub fn new() -> Workspace {
+        Workspace {
+            table: vec![0; ENTRIES],
+            work1: vec![0; ENTRIES],
+            work2: vec![0; ENTRIES],
+            run: vec![0; ENTRIES],
+        }
+    }
+
+    /// Searches the model for a run that matches the rule.
+    pub fn search(&mut self, rule: &[u8], model: &[u8]) -> Result<Searched<'_>, Refusal> {
+        let lent = Lent {
+            table: &mut self.table,
+            work1: &mut self.work1,
+            work2: &mut self.work2,
+            run: &mut self.run,
+        };
+        search_into(rule, model, lent)
+    }
+
+    /// The labels of the rule that was searched for last; all 0 before the first search.
+    pub fn table(&self) -> &[u64] {
+        &self.table
+    }
+}
+
+impl Default for Workspace {
+    fn default() -> Workspace {
+        Workspace::new()
+    }
+}
+
+#[cfg(test)]
+mod tests {
+    use super::*;
+
+    #[test]
+    fn front_never_goes_past_the_slice() {
+        assert_eq!(front(&[1, 2, 3], 2), [1, 2]);
+        assert_eq!(front(&[1, 2, 3], u64::MAX), [1, 2, 3]);
+        assert_eq!(front(&[], 1), []);
+    }
+}

@@ -1,0 +1,240 @@
+//! The calls of the C interface one for one, over slices, with answers of plain numbers.
+//!
+//! All that is unsafe in this crate stands in this file. Most users want the crate's own functions, which turn a
+//! refusal into an error; these are for those who want every field of an answer as it came.
+
+use std::borrow::Cow;
+
+// Declared from the repository's include/gongcollar.h, the one place that hosts declare from: a change there is
+// made here too, and nowhere else.
+
+/// What `gc_read_rule` answers.
+#[repr(C)]
+#[derive(Debug, Clone, Copy, Default, PartialEq, Eq)]
+pub struct Rule {
+    /// 0 for an answer, else the refusal's number.
+    pub refused: u64,
+    /// Where the refusal is.
+    pub place: u64,
+    /// The number of states of the rule's table.
+    pub weight: u64,
+}
+
+/// What `gc_build` answers.
+#[repr(C)]
+#[derive(Debug, Clone, Copy, Default, PartialEq, Eq)]
+pub struct Built {
+    /// 0 for an answer, else the refusal's number.
+    pub refused: u64,
+    /// Where the refusal is.
+    pub place: u64,
+    /// The number of states.
+    pub weight: u64,
+    /// The set of final states, bit q for state q.
+    pub finals: u64,
+}
+
+/// What `gc_judge` answers.
+#[repr(C)]
+#[derive(Debug, Clone, Copy, Default, PartialEq, Eq)]
+pub struct Judged {
+    /// 0 for an answer, else the refusal's number.
+    pub refused: u64,
+    /// Where the refusal is.
+    pub place: u64,
+    /// 1 if the rule accepts the letters, else 0.
+    pub accepts: u64,
+}
+
+/// What `gc_step` answers.
+#[repr(C)]
+#[derive(Debug, Clone, Copy, Default, PartialEq, Eq)]
+pub struct Stepped {
+    /// 0 for an answer, else the refusal's number.
+    pub refused: u64,
+    /// Where the refusal is.
+    pub place: u64,
+    /// The states that the walker may be in now; after a refusal, those that it came with.
+    pub set: u64,
+    /// 1 if a final state is among them, else 0.
+    pub matched: u64,
+}
+
+/// What `gc_read_model` answers.
+#[repr(C)]
+#[derive(Debug, Clone, Copy, Default, PartialEq, Eq)]
+pub struct Model {
+    /// 0 for an answer, else the refusal's number.
+    pub refused: u64,
+    /// Where the refusal is.
+    pub place: u64,
+    /// The number of states.
+    pub states: u64,
+}
+
+/// What `gc_search` answers.
+#[repr(C)]
+#[derive(Debug, Clone, Copy, Default, PartialEq, Eq)]
+pub struct Searched {
+    /// 0 for an answer, else the refusal's number.
+    pub refused: u64,
+    /// Where the refusal is.
+    pub place: u64,
+    /// 1 if some run matches, else 0.
+    pub found: u64,
+    /// The number of states of the shown run.
+    pub length: u64,
+    /// The number of pairs of a model state and a table state that were reached.
+    pub pairs: u64,
+}
+
+/// What a search is lent. Each slice wants [`ENTRIES`](crate::ENTRIES) entries or more.
+#[derive(Debug)]
+pub struct Lent<'a> {
+    /// Takes the rule's table.
+    pub table: &'a mut [u64],
+    /// Working space; its first 4,096 entries are 0 after an answer.
+    pub work1: &'a mut [u16],
+    /// Working space; its first 4,096 entries are 0 after an answer.
+    pub work2: &'a mut [u16],
+    /// Takes the shown run.
+    pub run: &'a mut [u8],
+}
+
+mod c {
+    use super::{Built, Judged, Model, Rule, Searched, Stepped};
+
+    extern "C" {
+        pub fn gc_read_rule(rule: *const u8, rule_len: usize) -> Rule;
+        pub fn gc_build(
+            rule: *const u8,
+            rule_len: usize,
+            table: *mut u64,
+            table_len: usize,
+        ) -> Built;
+        pub fn gc_judge(
+            rule: *const u8,
+            rule_len: usize,
+            letters: *const u8,
+            letters_len: usize,
+        ) -> Judged;
+        pub fn gc_step(
+            set: u64,
+            finals: u64,
+            table: *const u64,
+            table_len: usize,
+            letter: u8,
+        ) -> Stepped;
+        pub fn gc_read_model(model: *const u8, model_len: usize) -> Model;
+        pub fn gc_search(
+            rule: *const u8,
+            rule_len: usize,
+            model: *const u8,
+            model_len: usize,
+            table: *mut u64,
+            table_len: usize,
+            work1: *mut u16,
+            work1_len: usize,
+            work2: *mut u16,
+            work2_len: usize,
+            run: *mut u8,
+            run_len: usize,
+        ) -> Searched;
+        pub fn gc_rulecheck(
+            input: *const u8,
+            input_len: usize,
+            out: *mut u8,
+            out_len: usize,
+        ) -> u64;
+    }
+}
+
+// Every SAFETY line below leans on this: a slice's pointer is never null, not even that of an empty slice; pointer
+// and count are of one live borrow that outlasts the call; what is lent for writing is borrowed alone.
+
+/// The second slice, or a copy of it where it shares bytes with the first, which safe code may ask for and the header
+/// does not allow.
+fn apart<'a>(first: &[u8], second: &'a [u8]) -> Cow<'a, [u8]> {
+    let (a, b) = (first.as_ptr_range(), second.as_ptr_range());
+    if a.start < b.end && b.start < a.end {
+        Cow::Owned(second.to_vec())
+    } else {
+        Cow::Borrowed(second)
+    }
+}
+
+/// `gc_read_rule`: what is known of a rule.
+pub fn read_rule(rule: &[u8]) -> Rule {
+    // SAFETY: one slice that is only read.
+    unsafe { c::gc_read_rule(rule.as_ptr(), rule.len()) }
+}
+
+/// `gc_build`: the rule's table into a lent slice.
+pub fn build(rule: &[u8], table: &mut [u64]) -> Built {
+    // SAFETY: `table` is borrowed alone, so it does not overlap `rule`.
+    unsafe { c::gc_build(rule.as_ptr(), rule.len(), table.as_mut_ptr(), table.len()) }
+}
+
+/// `gc_judge`: whether a rule accepts some letters.
+pub fn judge(rule: &[u8], letters: &[u8]) -> Judged {
+    let letters = apart(rule, letters);
+    // SAFETY: two slices that are only read, and that do not overlap.
+    unsafe { c::gc_judge(rule.as_ptr(), rule.len(), letters.as_ptr(), letters.len()) }
+}
+
+/// `gc_step`: one step of a walker, which is its set and its finals.
+pub fn step(set: u64, finals: u64, table: &[u64], letter: u8) -> Stepped {
+    // SAFETY: one slice that is only read.
+    unsafe { c::gc_step(set, finals, table.as_ptr(), table.len(), letter) }
+}
+
+/// `gc_read_model`: what is known of a model.
+pub fn read_model(model: &[u8]) -> Model {
+    // SAFETY: one slice that is only read.
+    unsafe { c::gc_read_model(model.as_ptr(), model.len()) }
+}
+
+/// `gc_search`: the first shortest run of the model that matches the rule.
+pub fn search(rule: &[u8], model: &[u8], lent: &mut Lent<'_>) -> Searched {
+    let model = apart(rule, model);
+    // SAFETY: the four lent slices are each borrowed alone, so they overlap neither each other nor what is read; and
+    // the two that are read do not overlap.
+    unsafe {
+        c::gc_search(
+            rule.as_ptr(),
+            rule.len(),
+            model.as_ptr(),
+            model.len(),
+            lent.table.as_mut_ptr(),
+            lent.table.len(),
+            lent.work1.as_mut_ptr(),
+            lent.work1.len(),
+            lent.work2.as_mut_ptr(),
+            lent.work2.len(),
+            lent.run.as_mut_ptr(),
+            lent.run.len(),
+        )
+    }
+}
+
+/// `gc_rulecheck`: the line that the program rulecheck prints, without its newline; the answer is its length.
+pub fn rulecheck(input: &[u8], out: &mut [u8]) -> u64 {
+    // SAFETY: `out` is borrowed alone, so it does not overlap `input`.
+    unsafe { c::gc_rulecheck(input.as_ptr(), input.len(), out.as_mut_ptr(), out.len()) }
+}
+
+#[cfg(test)]
+mod tests {
+    use super::*;
+
+    #[test]
+    fn slices_that_share_bytes_are_copied() {
+        let bytes = [0x11; 8];
+        assert!(matches!(apart(&bytes[..4], &bytes[4..]), Cow::Borrowed(_)));
+        assert!(matches!(apart(&bytes[4..], &bytes[..4]), Cow::Borrowed(_)));
+        assert!(matches!(apart(&bytes[..5], &bytes[4..]), Cow::Owned(_)));
+        assert!(matches!(apart(&bytes, &bytes[2..3]), Cow::Owned(_)));
+        assert_eq!(*apart(&bytes, &bytes), bytes);
+        assert!(matches!(apart(&[], &[]), Cow::Borrowed(_)));
+    }
+}

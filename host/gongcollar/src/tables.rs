@@ -1,0 +1,172 @@
+//! Tables: a rule's automaton, and a walker that follows events through it.
+
+use crate::raw;
+use crate::{Refusal, ENTRIES, STATES};
+
+/// What is known of a built table beside its labels.
+#[derive(Debug, Clone, Copy, PartialEq, Eq)]
+#[non_exhaustive]
+pub struct Built {
+    /// The number of states, 1 to 64.
+    pub weight: u64,
+    /// The set of final states, bit q for state q.
+    pub finals: u64,
+}
+
+/// Builds the rule's table into a lent slice of [`ENTRIES`] entries or more; those past the first 4,096 stay.
+///
+/// ```
+/// let mut lent = vec![7; 5000];
+/// let built = gongcollar::build_into(&[0x10, 0x01, 0x00], &mut lent)?;
+/// assert_eq!((built.weight, built.finals), (2, 0b10));
+/// assert_eq!(lent[1], 0xAAAA_AAAA_AAAA_AAAA);
+/// assert_eq!(lent[4096], 7);
+/// # Ok::<(), gongcollar::Refusal>(())
+/// ```
+pub fn build_into(rule: &[u8], table: &mut [u64]) -> Result<Built, Refusal> {
+    let answer = raw::build(rule, table);
+    let built = Built {
+        weight: answer.weight,
+        finals: answer.finals,
+    };
+    Refusal::unless(answer.refused, answer.place, built)
+}
+
+/// A rule's table in memory of its own.
+///
+/// ```
+/// use gongcollar::Table;
+///
+/// // p0;{p1[*];p2}
+/// let table = Table::build(&[
+///     0x12, 0x10, 0x01, 0x00, 0x12, 0x17, 0x10, 0x01, 0x01, 0x10, 0x01, 0x02,
+/// ])?;
+/// assert_eq!(table.weight(), 6);
+/// assert_eq!(table.finals(), 1 << 5);
+/// assert_eq!(table.label(0, 1), 0xAAAA_AAAA_AAAA_AAAA);
+/// assert_eq!(table.label(1, 0), 0);
+/// # Ok::<(), gongcollar::Refusal>(())
+/// ```
+#[derive(Debug, Clone, PartialEq, Eq)]
+pub struct Table {
+    entries: Vec<u64>,
+    built: Built,
+}
+
+impl Table {
+    /// Builds the rule's table.
+    pub fn build(rule: &[u8]) -> Result<Table, Refusal> {
+        let mut entries = vec![0; ENTRIES];
+        let built = build_into(rule, &mut entries)?;
+        Ok(Table { entries, built })
+    }
+
+    /// The number of states, 1 to 64. State 0 is the initial one.
+    pub fn weight(&self) -> u64 {
+        self.built.weight
+    }
+
+    /// The set of final states, bit q for state q.
+    pub fn finals(&self) -> u64 {
+        self.built.finals
+    }
+
+    /// The label from one state to another: bit x is set if letter x leads there. 0 where there is no such state.
+    pub fn label(&self, from: usize, to: usize) -> u64 {
+        if from < STATES && to < STATES {
+            self.entries[STATES * from + to]
+        } else {
+            0
+        }
+    }
+
+    /// All labels, that from p to q at 64p+q.
+    pub fn entries(&self) -> &[u64] {
+        &self.entries
+    }
+
+    /// A walker at the table's initial state.
+    pub fn walker(&self) -> Walker {
+        Walker::start(self.finals())
+    }
+}
+
+impl AsRef<[u64]> for Table {
+    fn as_ref(&self) -> &[u64] {
+        &self.entries
+    }
+}
+
+/// The set of states that a table may be in after some events, and the finals.
+///
+/// A walker does not hold its table: each step is lent one, and steps over whatever labels are there.
+///
+/// ```
+/// use gongcollar::Table;
+///
+/// // p0;p1
+/// let table = Table::build(&[0x12, 0x10, 0x01, 0x00, 0x10, 0x01, 0x01])?;
+/// let mut walker = table.walker();
+/// assert!(!walker.advance(&table, 1)?);
+/// assert!(walker.advance(&table, 2)?);
+/// # Ok::<(), gongcollar::Refusal>(())
+/// ```
+#[derive(Debug, Clone, Copy, PartialEq, Eq, Hash)]
+pub struct Walker {
+    set: u64,
+    finals: u64,
+}
+
+/// A walker after a step, and whether it matches now.
+#[derive(Debug, Clone, Copy, PartialEq, Eq)]
+#[non_exhaustive]
+pub struct Stepped {
+    /// The walker, moved by one event.
+    pub walker: Walker,
+    /// Whether a final state is in its set.
+    pub matched: bool,
+}
+
+impl Walker {
+    /// A fresh walker: it is in state 0.
+    pub const fn start(finals: u64) -> Walker {
+        Walker::at(1, finals)
+    }
+
+    /// A walker that may be in any state of a set, bit q for state q.
+    pub const fn at(set: u64, finals: u64) -> Walker {
+        Walker { set, finals }
+    }
+
+    /// The states that it may be in, bit q for state q.
+    pub const fn set(&self) -> u64 {
+        self.set
+    }
+
+    /// The final states, bit q for state q.
+    pub const fn finals(&self) -> u64 {
+        self.finals
+    }
+
+    /// Whether a final state is in its set; for a fresh walker, whether the rule accepts no letters at all.
+    pub const fn matches(&self) -> bool {
+        self.set & self.finals != 0
+    }
+
+    /// The walker after one more event.
+    pub fn step(mut self, table: impl AsRef<[u64]>, letter: u8) -> Result<Stepped, Refusal> {
+        let matched = self.advance(table, letter)?;
+        Ok(Stepped {
+            walker: self,
+            matched,
+        })
+    }
+
+    /// Moves the walker by one event, and says whether it matches now. A refusal leaves it as it was.
+    pub fn advance(&mut self, table: impl AsRef<[u64]>, letter: u8) -> Result<bool, Refusal> {
+        let answer = raw::step(self.set, self.finals, table.as_ref(), letter);
+        // A refused step gives back the set that it came with.
+        self.set = answer.set;
+        Refusal::unless(answer.refused, answer.place, answer.matched != 0)
+    }
+}

@@ -1,0 +1,145 @@
+//! The worked examples of the scope document.
+
+use crate::inputs::{pair, state, three_states, two_of_three, P1, RULE};
+use cases::hostile::joined_left;
+use cases::rules::P0;
+use cases::{heavy, line_input, models};
+use gongcollar::{judge, read_model, read_rule, rulecheck, Kind, Table, Walker, Workspace};
+
+const LABEL_P0: u64 = 0xAAAA_AAAA_AAAA_AAAA;
+const LABEL_P1: u64 = 0xCCCC_CCCC_CCCC_CCCC;
+const LABEL_P2: u64 = 0xF0F0_F0F0_F0F0_F0F0;
+
+/// Judge, table and walker all say whether the rule accepts the letters.
+fn accepts(rule: &[u8], letters: &[u8]) -> bool {
+    let judged = judge(rule, letters).unwrap();
+    let table = Table::build(rule).unwrap();
+    let mut walker = table.walker();
+    for &letter in letters {
+        let matched = walker.advance(&table, letter).unwrap();
+        assert_eq!(matched, walker.matches());
+    }
+    assert_eq!(walker.matches(), judged);
+    judged
+}
+
+#[test]
+fn the_listed_sequences() {
+    let then = pair(0x12, &P0, &P1);
+    assert!(accepts(&[0x11], &[]));
+    assert!(!accepts(&[0x11], &[0]));
+    assert!(accepts(&P0, &[1]));
+    assert!(!accepts(&P0, &[]));
+    assert!(!accepts(&P0, &[1, 1]));
+    assert!(accepts(&pair(0x13, &P0, &P1), &[3]));
+    assert!(!accepts(&pair(0x13, &P0, &P1), &[1, 2]));
+    assert!(accepts(&then, &[1, 2]));
+    assert!(!accepts(&then, &[3]));
+    assert!(accepts(&pair(0x15, &P0, &then), &[1, 2]));
+    assert!(!accepts(&pair(0x15, &P0, &then), &[1]));
+    assert!(!accepts(&pair(0x16, &P0, &then), &[1, 2]));
+    assert!(accepts(&[0x18, 0x11], &[]));
+    let star: &[u8] = &[0x17, 0x10, 0x01, 0x00];
+    assert!(!accepts(&pair(0x13, star, star), &[]));
+}
+
+#[test]
+fn the_worked_table() {
+    let table = Table::build(&RULE).unwrap();
+    assert_eq!(table.weight(), 6);
+    assert_eq!(table.finals(), 1 << 5);
+    let mut labels = vec![0; gongcollar::ENTRIES];
+    labels[1] = LABEL_P0;
+    for from in [1, 2, 3] {
+        labels[64 * from + 3] = LABEL_P1;
+    }
+    for from in [1, 2, 3, 4] {
+        labels[64 * from + 5] = LABEL_P2;
+    }
+    assert_eq!(table.entries(), labels);
+    assert_eq!(table.label(3, 5), LABEL_P2);
+    assert_eq!(table.label(64, 0), 0);
+    assert_eq!(table.label(0, 64), 0);
+}
+
+#[test]
+fn the_worked_walk() {
+    let table = Table::build(&RULE).unwrap();
+    let after_p0 = table.walker().step(&table, 1).unwrap();
+    assert_eq!(after_p0.walker, Walker::at(0b10, table.finals()));
+    assert!(!after_p0.matched);
+    let after_both = after_p0.walker.step(table.entries(), 6).unwrap();
+    assert_eq!(after_both.walker.set(), 1 << 3 | 1 << 5);
+    assert!(after_both.matched);
+}
+
+/// Two rows of 16 letters under `|`, which weigh 65.
+fn one_too_heavy() -> Vec<u8> {
+    let half = joined_left(0x12, &P0, 16);
+    pair(0x14, &half, &half)
+}
+
+#[test]
+fn weights_at_the_limit() {
+    let row = joined_left(0x12, &P0, 32);
+    assert_eq!(read_rule(&row).unwrap().weight, 64);
+    let refusal = read_rule(&one_too_heavy()).unwrap_err();
+    assert_eq!((refusal.kind(), refusal.place()), (Kind::TooHeavy, 0));
+}
+
+#[test]
+fn the_worked_search() {
+    let mut workspace = Workspace::new();
+    let found = workspace.search(&RULE, &three_states()).unwrap();
+    assert_eq!(found.run, Some(&[0, 1, 2][..]));
+    assert_eq!(found.pairs, 3);
+    assert_eq!(workspace.table(), Table::build(&RULE).unwrap().entries());
+    let none = workspace.search(&RULE, &two_of_three()).unwrap();
+    assert_eq!((none.run, none.pairs), (None, 2));
+}
+
+#[test]
+fn the_worked_lines() {
+    assert_eq!(
+        rulecheck(&line_input(&RULE, &three_states())),
+        "found 3 pairs 3: 0 1 2"
+    );
+    assert_eq!(
+        rulecheck(&line_input(&RULE, &two_of_three())),
+        "none pairs 2"
+    );
+    assert_eq!(
+        rulecheck(&line_input(&one_too_heavy(), &[])),
+        "refused 7 at 0"
+    );
+    assert_eq!(rulecheck(&[]), "refused 2 at 0");
+    assert_eq!(rulecheck(&[0xFF, 0x11]), "none pairs 0");
+}
+
+#[test]
+fn a_model_may_be_empty_or_full() {
+    assert_eq!(read_model(&[]).unwrap().states, 0);
+    let full = state(0, 1, u64::MAX).repeat(64);
+    assert_eq!(read_model(&full).unwrap().states, 64);
+}
+
+#[test]
+fn a_rule_of_the_empty_sequence_is_never_found() {
+    let mut workspace = Workspace::default();
+    let searched = workspace.search(&[0x11], &three_states()).unwrap();
+    assert_eq!((searched.run, searched.pairs), (None, 0));
+}
+
+#[test]
+fn a_long_run_is_printed_whole() {
+    let ring = models::ring(64, Some(33));
+    let rule = heavy::cycle_then_p0(31);
+    let mut workspace = Workspace::new();
+    let searched = workspace.search(&rule, &ring).unwrap();
+    let run: Vec<u8> = (0..1954).map(|i| (i % 64) as u8).collect();
+    assert_eq!(searched.run, Some(&run[..]));
+    assert_eq!(searched.pairs, 1955);
+    let states: Vec<String> = run.iter().map(u8::to_string).collect();
+    let line = format!("found 1954 pairs 1955: {}", states.join(" "));
+    assert_eq!(rulecheck(&line_input(&rule, &ring)), line);
+}

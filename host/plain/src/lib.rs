@@ -1,0 +1,51 @@
+//! The scope document by the book, in plain Rust.
+//!
+//! The code of the proved library was not looked at for this crate, which is written from the papers. The
+//! answers of the two are compared: where they differ, one of them is wrong or the papers leave something
+//! open. So this crate prefers the obvious way over the fast one.
+//!
+//! The plan of the search is the library's too (forward by levels, back for the run): it was known from the
+//! project's documents. The tests therefore hold the search to two other ways of finding its answer.
+//!
+//! | subject | module | public |
+//! |---|---|---|
+//! | numbers given back | `refusal` | [`Refusal`] |
+//! | formulas and their labels | `formula` | [`Formula`] |
+//! | rules and their weight | `rule` | [`Rule`] |
+//! | bytes to rules | `reader` | [`read_rule`], [`ReadRule`] |
+//! | Definition 2 | `meaning` | [`accepts`] |
+//! | the plain judge | `judge` | [`judge()`] |
+//! | the automaton in the scope document's numbering | `table` | [`build`], [`Table`] |
+//! | the walker | `walk` | [`step`], [`follow`] |
+//! | bytes to models | `model` | [`read_model`], [`Model`] |
+//! | the search and its count | `search` | [`search()`], [`Searched`] |
+//! | what rulecheck prints | `line` | [`line()`] |
+
+#![forbid(unsafe_code)]
+#![warn(missing_docs)]
+
+mod bytes;
+mod formula;
+mod judge;
+mod line;
+mod meaning;
+mod model;
+mod reader;
+mod refusal;
+mod rule;
+mod search;
+mod set;
+mod table;
+mod walk;
+
+pub use formula::Formula;
+pub use judge::judge;
+pub use line::line;
+pub use meaning::accepts;
+pub use model::{read_model, Model};
+pub use reader::{read_rule, ReadRule};
+pub use refusal::Refusal;
+pub use rule::Rule;
+pub use search::{search, Searched};
+pub use table::{build, Table, TABLE_ENTRIES};
+pub use walk::{follow, step};

@@ -1,0 +1,53 @@
+//! Rules: the SEREs of Definition 1.
+
+use crate::formula::Formula;
+
+/// A sequence rule. Two operands stand in the order of their bytes.
+#[derive(Debug, Clone, PartialEq, Eq)]
+pub enum Rule {
+    /// One letter in which the formula holds.
+    Letter(Formula),
+    /// The sequence without letters.
+    Empty,
+    /// `;`, the one after the other.
+    Then(Box<Rule>, Box<Rule>),
+    /// `:`, the one after the other with one letter in common.
+    Overlap(Box<Rule>, Box<Rule>),
+    /// `|`, at least one of the two.
+    Or(Box<Rule>, Box<Rule>),
+    /// `&`, both, where one of them may be done before the other.
+    LooseAnd(Box<Rule>, Box<Rule>),
+    /// `&&`, both over the same letters.
+    EqualAnd(Box<Rule>, Box<Rule>),
+    /// `[*]`, any number of times.
+    Star(Box<Rule>),
+    /// `[+]`, at least once.
+    Plus(Box<Rule>),
+}
+
+impl Rule {
+    /// The number of states of the rule's table.
+    ///
+    /// 255 bytes can ask for more than any word holds; the largest number stands for those, since no
+    /// operator weighs less than its operands.
+    pub fn weight(&self) -> u128 {
+        match self {
+            Rule::Letter(_) => 2,
+            Rule::Empty => 1,
+            Rule::Then(a, b) | Rule::Overlap(a, b) => a.weight().saturating_add(b.weight()),
+            Rule::Or(a, b) => a.weight().saturating_add(b.weight()).saturating_add(1),
+            Rule::LooseAnd(a, b) => loose_and_weight(a.weight(), b.weight()),
+            Rule::EqualAnd(a, b) => a.weight().saturating_mul(b.weight()),
+            Rule::Star(a) | Rule::Plus(a) => a.weight(),
+        }
+    }
+}
+
+/// 2mn + 2m + 2n + 1: the rule that `&` is built as joins m(n+2) and (m+2)n states under a new one.
+fn loose_and_weight(m: u128, n: u128) -> u128 {
+    m.saturating_mul(n)
+        .saturating_add(m)
+        .saturating_add(n)
+        .saturating_mul(2)
+        .saturating_add(1)
+}

@@ -1,0 +1,74 @@
+//! What rulecheck prints.
+
+use crate::spell::*;
+use plain::line;
+
+/// The input for a rule and a model.
+fn input(rule: &[u8], model: &[u8]) -> Vec<u8> {
+    [&[rule.len() as u8], rule, model].concat()
+}
+
+/// The model of the worked example, with the successors of its second state.
+fn example(second: u64) -> Vec<u8> {
+    let states = [
+        state(1, true, 2),
+        state(2, false, second),
+        state(4, false, 0),
+    ];
+    states.concat()
+}
+
+#[test]
+fn the_worked_examples() {
+    assert_eq!(
+        line(&input(&worked(), &example(6))),
+        "found 3 pairs 3: 0 1 2"
+    );
+    assert_eq!(line(&input(&worked(), &example(2))), "none pairs 2");
+    let heavy = nested(0x12, 32, &p(0));
+    assert_eq!(line(&input(&heavy, &example(6))), "refused 7 at 0");
+}
+
+#[test]
+fn the_first_worked_example_byte_by_byte() {
+    let bytes = [
+        0x0C, 0x12, 0x10, 0x01, 0x00, 0x12, 0x17, 0x10, 0x01, 0x01, 0x10, 0x01, 0x02, // rule
+        0x20, 0x01, 0x01, 0x02, 0, 0, 0, 0, 0, 0, 0, // state 0
+        0x20, 0x02, 0x00, 0x06, 0, 0, 0, 0, 0, 0, 0, // state 1
+        0x20, 0x04, 0x00, 0x00, 0, 0, 0, 0, 0, 0, 0, // state 2
+    ];
+    assert_eq!(line(&bytes), "found 3 pairs 3: 0 1 2");
+}
+
+#[test]
+fn a_length_beyond_the_input_leaves_no_model() {
+    assert_eq!(line(&[0xFF, 0x11]), "none pairs 0");
+    assert_eq!(line(&[0x02, 0x11]), "none pairs 0");
+    assert_eq!(line(&[0x05, 0x12, 0x11]), "refused 2 at 2");
+}
+
+#[test]
+fn no_input_is_an_empty_rule() {
+    assert_eq!(line(&[]), "refused 2 at 0");
+    assert_eq!(line(&[0x00]), "refused 2 at 0");
+    assert_eq!(line(&[0x00, 0x11]), "refused 2 at 0");
+}
+
+#[test]
+fn places_are_offsets_in_the_rule_or_the_model() {
+    assert_eq!(line(&[0x02, 0x10, 0x07]), "refused 3 at 1");
+    assert_eq!(line(&[0x01, 0x11, 0x20, 0x40]), "refused 14 at 1");
+    assert_eq!(line(&[0x01, 0x11, 0x21]), "refused 12 at 0");
+    let full = state(0, true, 0).repeat(64);
+    let over = [&full[..], &[0xFF; 4000]].concat();
+    assert_eq!(line(&input(&empty(), &full)), "none pairs 0");
+    assert_eq!(line(&input(&empty(), &over)), "refused 11 at 704");
+}
+
+#[test]
+fn states_are_told_in_decimal() {
+    let states: Vec<u8> = (0..64)
+        .flat_map(|number| state((number == 63) as u8, number == 63, 0))
+        .collect();
+    assert_eq!(line(&input(&p(0), &states)), "found 1 pairs 1: 63");
+}

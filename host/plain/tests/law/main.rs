@@ -1,0 +1,12 @@
+//! The crate held to the scope document: its examples, its refusals, and drawn cases where two ways of
+//! finding the answer must agree.
+
+mod draw;
+mod lines;
+mod meanings;
+mod models;
+mod reading;
+mod searches;
+mod spell;
+mod tables;
+mod walks;
