@@ -13,10 +13,9 @@ use Rattle.models.specs.Model.{Model}
 use Rattle.search.specs.Passes.{view, Step, Below, Marked, Useful, SeedRow, SettleRow}
 use Rattle.search.proofs.Labels.{same-pair}
 use Rattle.search.proofs.Level.{Link, ends}
-use Rattle.search.proofs.Useful.{back-useful, seed-useful}
 use Rattle.tables.proofs.TableOf.{edge-out, final-out, final-in}
 use Rattle.search.proofs.Given.{Given, modelFor, tableFor, labelsFor, fair}
-use Rattle.search.proofs.Useful.{Nearest, nearest}
+use Rattle.search.proofs.Useful.{Nearest, nearest, back-useful, seed-useful}
 use Rattle.search.proofs.Settling.{settle-on}
 
 -- down to level j: the useful pairs are marked from there on, and no pair before it
@@ -42,7 +41,7 @@ module _ (G : Given) where
     inside : (s q : ℕ) → s < 64 → q < 64 → view m s q ≢ 0 → (s < G .sizes .states) × (q < G .sizes .weight)
     inside s q hs hq h = let e = ends M A (fair G) (x .levels .sound s q hs hq h) in (e .state, e .below)
 
-    -- the (G .sizes .finals) of the last level
+    -- the finals of the last level
     pub seed-backing : (u v : List ℕ) (d : ℕ) → ((i : ℕ) → i < 4096 → getD u i 0 ≡ 0) → Step 0 u v (Below (SeedRow (G .sizes .weight) (G .sizes .finals) m k) (G .sizes .states)) d → Backing M A k m v k
     seed-backing u v d zeros st =
         record {
