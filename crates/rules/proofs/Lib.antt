@@ -9,6 +9,7 @@ pub mod Encode
 pub mod Stands
 pub mod Ended
 pub mod Once
+pub mod OneEnd
 pub mod Accepting
 pub mod Maps
 pub mod Deciding

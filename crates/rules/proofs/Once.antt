@@ -1,7 +1,7 @@
 -- No second answer fits the promise of `read_rule`: `told` loses nothing. The calls above, which hand a rule's refusal on, use the same.
 -- Assumes nothing.
 use Prim.Native.Nat.{ℕ}
-use mathlib.Core.Path.{_≡_, refl, sym, ap, _∙_}
+use mathlib.Core.Path.{_≡_, refl, sym, ap, ap₂, _∙_}
 use mathlib.Core.Bool.{true}
 use mathlib.Core.List.{List}
 use lib.Dec.{eqb, ltb}
@@ -33,6 +33,10 @@ named-told (WrongSort p) = refl
 named-told (NoProposition p) = refl
 named-told (Leftover p) = refl
 named-told TooHeavy = refl
+
+-- a refusal is known by its number and its place
+pub one-refusal : (x y : Refusal) → number x ≡ number y → place x ≡ place y → x ≡ y
+one-refusal x y n p = sym (named-told x) ∙ ap₂ named n p ∙ named-told y
 
 -- the numbers of a rule's refusals are those below 8
 of-a-rule : (x : Refusal) → ltb (number x) 8 ≡ true
