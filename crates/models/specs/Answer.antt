@@ -7,8 +7,8 @@ use Rattle.models.specs.declared.ModelAnswer.{ModelAnswer}
 use Rattle.models.specs.declared.ModelAnswer.the-variants.{Accepted, Refused}
 use Rattle.models.specs.declared.ModelData.{ModelData}
 use Rattle.models.specs.declared.ModelRead.{ModelRead}
-use Rattle.models.specs.declared.Counted.{Counted}
-use Rattle.models.specs.declared.Counted.the-variants.{States, Fault}
+use Rattle.models.specs.declared.records.Counted.{Counted}
+use Rattle.models.specs.declared.records.Counted.the-variants.{States, Fault}
 use Rattle.models.specs.Reading.{Outcome, good, fault, reading}
 use Rattle.models.specs.Stored.{stored, noStates}
 

@@ -1,8 +1,8 @@
 -- `models::model_of` meets its contract. Assumes nothing.
 use borrow.Author.Needs.{needs}
 use Rattle.models.proofs.Finish.{stored-as}
-use Rattle.models.proofs.model_of.Statement.{statement}
-use Rattle.models.proofs.model_of.Tie as tie
+use Rattle.models.proofs.storing.model_of.Statement.{statement}
+use Rattle.models.proofs.storing.model_of.Tie as tie
 
 letters-of-requires : tie.Need-letters-of-requires
 letters-of-requires c κs = search needs

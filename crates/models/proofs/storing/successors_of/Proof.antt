@@ -6,8 +6,8 @@ use native.Mathlib.Omega.{arith}
 use Rattle.models.specs.Reading.{successors}
 use Rattle.models.specs.Stored.{column}
 use Rattle.models.proofs.Columns.{column-none, column-turn, column-last}
-use Rattle.models.proofs.successors_of.Statement.{statement}
-use Rattle.models.proofs.successors_of.Tie as tie
+use Rattle.models.proofs.storing.successors_of.Statement.{statement}
+use Rattle.models.proofs.storing.successors_of.Tie as tie
 
 abbrev Inv-loop : tie.InvT-loop
 Inv-loop model n successors₀ k₀ successors′ k = (k ≤ n) × (successors′ ≡ column k (successors model))

@@ -2,8 +2,8 @@
 use native.Mathlib.Omega.{arith}
 use borrow.Author.Needs.{needs}
 use Rattle.models.proofs.Passes.{kind-wrong, cut-letter, letter-large, cut-flag, flag-wrong, cut-successors, record-good}
-use Rattle.models.proofs.record_at.Statement.{statement}
-use Rattle.models.proofs.record_at.Tie as tie
+use Rattle.models.proofs.records.record_at.Statement.{statement}
+use Rattle.models.proofs.records.record_at.Tie as tie
 
 shared-slice-read-if1 : tie.Need-shared-slice-read-if1
 shared-slice-read-if1 c = search needs

@@ -5,8 +5,8 @@ use mathlib.Core.Path.{_≡_, refl, sym, _∙_}
 use native.Mathlib.Omega.{arith}
 use Rattle.models.specs.Reading.{records}
 use Rattle.models.proofs.Passes.{records-end, records-full, records-last, records-fault, records-on}
-use Rattle.models.proofs.count_states.Statement.{statement}
-use Rattle.models.proofs.count_states.Tie as tie
+use Rattle.models.proofs.records.count_states.Statement.{statement}
+use Rattle.models.proofs.records.count_states.Tie as tie
 
 abbrev Inv-loop : tie.InvT-loop
 Inv-loop model k₀ k = (k ≤ 64) × (records (64 - k) model k ≡ records 64 model 0)

@@ -2,8 +2,8 @@
 use borrow.Author.Needs.{needs}
 use mathlib.Core.Path.{_∙_}
 use Rattle.models.proofs.Flags.{flag-on, flag-off}
-use Rattle.models.proofs.flagged.Statement.{statement}
-use Rattle.models.proofs.flagged.Tie as tie
+use Rattle.models.proofs.storing.flagged.Statement.{statement}
+use Rattle.models.proofs.storing.flagged.Tie as tie
 
 with-requires : tie.Need-with-requires
 with-requires c κs = search needs

@@ -1,8 +1,8 @@
 -- `models::strays` meets its contract. Assumes nothing.
 use borrow.Author.Needs.{needs}
 use Rattle.models.proofs.Straying.{stray-test}
-use Rattle.models.proofs.strays.Statement.{statement}
-use Rattle.models.proofs.strays.Tie as tie
+use Rattle.models.proofs.records.strays.Statement.{statement}
+use Rattle.models.proofs.records.strays.Tie as tie
 
 below-requires : tie.Need-below-requires
 below-requires c κs = search needs

@@ -8,8 +8,8 @@ use Rattle.bits.specs.Word.{word}
 use Rattle.bits.proofs.Laws.{word-none}
 use Rattle.models.specs.Reading.{flag}
 use Rattle.models.proofs.Flags.{flags-last}
-use Rattle.models.proofs.initial_of.Statement.{statement}
-use Rattle.models.proofs.initial_of.Tie as tie
+use Rattle.models.proofs.storing.initial_of.Statement.{statement}
+use Rattle.models.proofs.storing.initial_of.Tie as tie
 
 abbrev Inv-loop : tie.InvT-loop
 Inv-loop model n initial₀ k₀ initial k = (k ≤ n) × (initial ≡ word k (λ j. eqb (flag model j) 1))

@@ -6,8 +6,8 @@ use native.Mathlib.Omega.{arith}
 use Rattle.models.specs.Reading.{letter}
 use Rattle.models.specs.Stored.{column}
 use Rattle.models.proofs.Columns.{column-none, column-turn, column-last}
-use Rattle.models.proofs.letters_of.Statement.{statement}
-use Rattle.models.proofs.letters_of.Tie as tie
+use Rattle.models.proofs.storing.letters_of.Statement.{statement}
+use Rattle.models.proofs.storing.letters_of.Tie as tie
 
 abbrev Inv-loop : tie.InvT-loop
 Inv-loop model n letters₀ k₀ letters k = (k ≤ n) × (letters ≡ column k (letter model))

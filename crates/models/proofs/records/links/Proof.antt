@@ -6,8 +6,8 @@ use mathlib.Core.Bool.{true, false}
 use native.Mathlib.Omega.{arith}
 use Rattle.models.specs.Reading.{linked}
 use Rattle.models.proofs.Passes.{linked-start, linked-turn, linked-end}
-use Rattle.models.proofs.links.Statement.{statement}
-use Rattle.models.proofs.links.Tie as tie
+use Rattle.models.proofs.records.links.Statement.{statement}
+use Rattle.models.proofs.records.links.Tie as tie
 
 abbrev Inv-loop : tie.InvT-loop
 Inv-loop model n k₀ k = (k ≤ n) × (linked (n - k) model n k ≡ linked n model n 0)
