@@ -2,13 +2,12 @@
 use Prim.Native.Nat.{ℕ}
 use native.Mathlib.Omega.{arith}
 use mathlib.Core.Path.{_≡_, refl, sym, ap, subst⁻¹, _∙_}
-use mathlib.Core.Bool.{Bool}
+use mathlib.Core.Bool.{Bool, cond}
 use mathlib.Core.List.{List}
 use lib.Dec.{eqb}
 use Rattle.bits.specs.Says.{Says}
 use Rattle.rules.specs.Definition1.{Rule}
 use Rattle.rules.specs.Definition2.{Sat}
-use Rattle.rules.specs.Kinds.{pick}
 use Rattle.rules.specs.Answer.{AcceptedAs, knownOf}
 use Rattle.rules.proofs.Accepting.{not-refused, accepted-once}
 use Rattle.rules.proofs.Once.{handedOn, handed-on}
@@ -47,7 +46,7 @@ module _ (s w : List ℕ) where
 -- the answer that a verdict tells of: `told` loses nothing
 abbrev meant : Verdict → JudgeAnswer
 meant (judged b k) = Judged b k
-meant (refused n p) = handedOn RuleRefused (pick (eqb n 22) (NoLetter p) TooManyLetters) n p
+meant (refused n p) = handedOn RuleRefused (cond (eqb n 22) (NoLetter p) TooManyLetters) n p
 
 meant-told : (a : JudgeAnswer) → meant (told a) ≡ a
 meant-told (Judged b k) = refl

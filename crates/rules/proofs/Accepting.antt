@@ -3,7 +3,7 @@
 use Prim.Native.Nat.{ℕ, _≤_}
 use native.Mathlib.Omega.{arith}
 use mathlib.Core.Path.{_≡_, refl, sym, subst, _∙_}
-use mathlib.Core.Bool.{Bool, true, false}
+use mathlib.Core.Bool.{Bool, true, false, cond}
 use mathlib.Core.Logic.{_↔_}
 use mathlib.Core.List.{List}
 use lib.Dec.{leb, ltb}
@@ -11,7 +11,6 @@ use lib.ListN.{length}
 use borrow.Author.Tests.{le-ltb, le-leb, leb-true, ltb-false}
 use Rattle.rules.specs.declared.Known.{Known}
 use Rattle.rules.specs.Definition1.{Rule}
-use Rattle.rules.specs.Kinds.{pick}
 use Rattle.rules.specs.Weight.{weightOf, weightLimit}
 use Rattle.rules.specs.Reading.{Outcome, good, fault}
 use Rattle.rules.specs.Encoding.{spell, Small}
@@ -24,7 +23,7 @@ no-refusal : (n p : ℕ) (k : Known) → refused n p ≡ accepted k → ⊥
 no-refusal n p k q = let z : _≡_ {A = ℕ} 0 1 = cc in omega arith
 
 module _ (s : List ℕ) where
-  on-weight : (r : Rule) (k : Known) (t : Bool) → leb (weightOf r) weightLimit ≡ t → pick t (accepted (knownOf r)) (refused 7 0) ≡ accepted k → (weightOf r ≤ weightLimit) × (k ≡ knownOf r)
+  on-weight : (r : Rule) (k : Known) (t : Bool) → leb (weightOf r) weightLimit ≡ t → cond t (accepted (knownOf r)) (refused 7 0) ≡ accepted k → (weightOf r ≤ weightLimit) × (k ≡ knownOf r)
   on-weight r k true e q = (leb-true (weightOf r) weightLimit e, cc)
   on-weight r k false e q = absurd (no-refusal 7 0 k q)
 
@@ -38,7 +37,7 @@ module _ (s : List ℕ) where
   pub accepted-rule : (k : Known) → answer s ≡ accepted k → (r : Rule) × AcceptedAs s r × (k ≡ knownOf r)
   accepted-rule k q = go (ltb longestRule (length s)) refl q
     where
-      go : (t : Bool) → ltb longestRule (length s) ≡ t → pick t (refused 1 0) (weighed (parse s)) ≡ accepted k → (r : Rule) × AcceptedAs s r × (k ≡ knownOf r)
+      go : (t : Bool) → ltb longestRule (length s) ≡ t → cond t (refused 1 0) (weighed (parse s)) ≡ accepted k → (r : Rule) × AcceptedAs s r × (k ≡ knownOf r)
       go true e q = absurd (no-refusal 1 0 k q)
       go false e q = on-outcome (ltb-false longestRule (length s) e) k (parse s) refl q
 

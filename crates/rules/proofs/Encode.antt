@@ -4,7 +4,7 @@ use native.Mathlib.Omega.{arith}
 use native.Mathlib.Numerals.{add-one}
 use mathlib.Core.Path.{_≡_, refl, sym, ap, ap₂, subst, _∙_}
 use mathlib.Core.Logic.{_⊎_, inl, inr, ⊎-elim}
-use mathlib.Core.Bool.{Bool, true, false}
+use mathlib.Core.Bool.{Bool, true, false, cond}
 use mathlib.Core.List.{List, [], _∷_, _++_, append-assoc, append-nil}
 use lib.Dec.{eqb, leb}
 use lib.ListN.{length, getD, drop, length-append}
@@ -23,7 +23,7 @@ use Rattle.rules.specs.declared.kinds.RuleKind.the-variants.{Letter, Emp
 use Rattle.rules.specs.declared.kinds.Kind.{Kind}
 use Rattle.rules.specs.declared.kinds.Kind.the-variants.{OfFormula, OfRule, Unknown}
 use Rattle.rules.specs.Definition1.{Formula, prop, yea, nay, neg, join, Rule, letter, empty, two, again}
-use Rattle.rules.specs.Kinds.{Row, table, lookup, kindOf, pick}
+use Rattle.rules.specs.Kinds.{Row, table, lookup, kindOf}
 use Rattle.rules.specs.Reading.{good, fault, Need, rule, formula, body, Value, Rest, scan, takeRule, takeFormula}
 use Rattle.rules.specs.Places.{Here, FormulaAt, a-prop, a-yea, a-nay, a-neg, a-join, RuleAt, a-letter, a-empty, a-two, a-again}
 use Rattle.rules.specs.Encoding.{junctionByte, pairByte, repeatByte, spellF, spell, SmallF, Small}
@@ -51,7 +51,7 @@ found : (rs : List Row) → Rows rs → (b : ℕ) → (lookup rs b ≡ Unknown) 
 found [] ok b = inl refl
 found (r ∷ rs) (p, ok) b = go (eqb b (r .byte)) refl (found rs ok b)
   where
-    go : (t : Bool) → eqb b (r .byte) ≡ t → (lookup rs b ≡ Unknown) ⊎ (byteOf (lookup rs b) ≡ b) → (pick t (r .says) (lookup rs b) ≡ Unknown) ⊎ (byteOf (pick t (r .says) (lookup rs b)) ≡ b)
+    go : (t : Bool) → eqb b (r .byte) ≡ t → (lookup rs b ≡ Unknown) ⊎ (byteOf (lookup rs b) ≡ b) → (cond t (r .says) (lookup rs b) ≡ Unknown) ⊎ (byteOf (cond t (r .says) (lookup rs b)) ≡ b)
     go true e o = inr (p ∙ sym (eqb-true b (r .byte) e))
     go false e o = o
 
@@ -215,7 +215,7 @@ module _ (b : ℕ) (bs : List ℕ) (ih : (ns : List Need) (k : Rest ns) (at : �
       let i = ih (formula ∷ formula ∷ ns) (λ x y. k (join j x y)) (at + 1) r q in
       record { vs = (join j (i .vs .0) (i .vs .1 .0), i .vs .1 .1); bytes = ap₂ _∷_ (f-byte b (Join j) e) (i .bytes ∙ sym (append-assoc (spellF (i .vs .0)) (spellF (i .vs .1 .0)) _)); makes = i .makes; small = ((i .small .0, i .small .1 .0), i .small .1 .1) }
 
-  on-body : (k : ℕ → Rest ns) (t : Bool) → leb b 5 ≡ t → pick t (scan bs ns (k b) (at + 1)) (fault 5 at) ≡ good r → Spelt (b ∷ bs) (body ∷ ns) k r
+  on-body : (k : ℕ → Rest ns) (t : Bool) → leb b 5 ≡ t → cond t (scan bs ns (k b) (at + 1)) (fault 5 at) ≡ good r → Spelt (b ∷ bs) (body ∷ ns) k r
   on-body k false e q = absurd (no-fault _ _ _ q)
   on-body k true e q =
       let i = ih ns (k b) (at + 1) r q in

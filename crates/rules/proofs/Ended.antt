@@ -2,7 +2,7 @@
 use Prim.Native.Nat.{ℕ, _+_}
 use native.Mathlib.Omega.{arith}
 use mathlib.Core.Path.{_≡_}
-use mathlib.Core.Bool.{Bool, true, false}
+use mathlib.Core.Bool.{Bool, true, false, cond}
 use mathlib.Core.List.{List, [], _∷_}
 use lib.Dec.{leb}
 use lib.ListN.{length}
@@ -11,7 +11,7 @@ use Rattle.rules.specs.declared.kinds.RuleKind.the-variants.{Letter, Emp
 use Rattle.rules.specs.declared.kinds.Kind.{Kind}
 use Rattle.rules.specs.declared.kinds.Kind.the-variants.{OfFormula, OfRule, Unknown}
 use Rattle.rules.specs.Definition1.{Formula, prop, yea, nay, neg, join, Rule, letter, empty, two, again}
-use Rattle.rules.specs.Kinds.{kindOf, pick}
+use Rattle.rules.specs.Kinds.{kindOf}
 use Rattle.rules.specs.Reading.{fault, Need, rule, formula, body, Rest, scan, takeRule, takeFormula}
 use Rattle.rules.specs.Answer.{parse}
 
@@ -39,7 +39,7 @@ module _ (bs : List ℕ) (ih : (ns : List Need) (k : Rest ns) (at p : ℕ) → s
   on-formula k (OfFormula Not) q = next (ih (formula ∷ ns) (λ f. k (neg f)) (at + 1) p q)
   on-formula k (OfFormula (Join j)) q = next (ih (formula ∷ formula ∷ ns) (λ f g. k (join j f g)) (at + 1) p q)
 
-  on-body : (k : ℕ → Rest ns) (b : ℕ) (t : Bool) → pick t (scan bs ns (k b) (at + 1)) (fault 5 at) ≡ fault 2 p → p ≡ at + (length bs + 1)
+  on-body : (k : ℕ → Rest ns) (b : ℕ) (t : Bool) → cond t (scan bs ns (k b) (at + 1)) (fault 5 at) ≡ fault 2 p → p ≡ at + (length bs + 1)
   on-body k b true q = next (ih ns (k b) (at + 1) p q)
   on-body k b false q = other 5 2 at p _ q (omega arith)
 

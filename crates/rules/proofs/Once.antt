@@ -2,24 +2,23 @@
 -- Assumes nothing.
 use Prim.Native.Nat.{ℕ}
 use mathlib.Core.Path.{_≡_, refl, sym, ap, ap₂, _∙_}
-use mathlib.Core.Bool.{true}
+use mathlib.Core.Bool.{true, cond}
 use mathlib.Core.List.{List}
 use lib.Dec.{eqb, ltb}
 use Rattle.rules.specs.declared.Refusal.{Refusal}
 use Rattle.rules.specs.declared.Refusal.the-variants.{TooLong, Ended, UnknownKind, WrongSort, NoProposition, Leftover, TooHeavy}
 use Rattle.rules.specs.declared.RuleAnswer.{RuleAnswer}
 use Rattle.rules.specs.declared.RuleAnswer.the-variants.{Accepted, Refused}
-use Rattle.rules.specs.Kinds.{pick}
 use Rattle.rules.specs.Refusals.{number, place}
 use Rattle.rules.specs.Answer.{Result, accepted, refused, answer, told}
 
 -- the rule's refusal of a number and a place
 abbrev named : ℕ → ℕ → Refusal
 named n p =
-    pick (eqb n 1) TooLong
-    (pick (eqb n 2) (Ended p)
-    (pick (eqb n 3) (UnknownKind p)
-    (pick (eqb n 4) (WrongSort p) (pick (eqb n 5) (NoProposition p) (pick (eqb n 6) (Leftover p) TooHeavy)))))
+    cond (eqb n 1) TooLong
+    (cond (eqb n 2) (Ended p)
+    (cond (eqb n 3) (UnknownKind p)
+    (cond (eqb n 4) (WrongSort p) (cond (eqb n 5) (NoProposition p) (cond (eqb n 6) (Leftover p) TooHeavy)))))
 
 abbrev meant : Result → RuleAnswer
 meant (accepted k) = Accepted k
@@ -50,7 +49,7 @@ of-a-rule TooHeavy = refl
 
 -- what a call that hands a rule's refusal on, as `made` makes it, means by a number and a place; `own` is what it means by other numbers
 abbrev pub handedOn : {A : Type 0} → (Refusal → A) → A → ℕ → ℕ → A
-handedOn made own n p = pick (ltb n 8) (made (named n p)) own
+handedOn made own n p = cond (ltb n 8) (made (named n p)) own
 
 pub handed-on : {A : Type 0} (made : Refusal → A) (own : A) (x : Refusal) → handedOn made own (number x) (place x) ≡ made x
 handed-on made own x = rw (of-a-rule x) (ap made (named-told x))

@@ -2,7 +2,7 @@
 use Prim.Native.Nat.{ℕ, _+_}
 use native.Mathlib.Omega.{arith}
 use mathlib.Core.Path.{_≡_, refl, sym, ap, _∙_}
-use mathlib.Core.Bool.{Bool, true, false}
+use mathlib.Core.Bool.{Bool, true, false, cond}
 use mathlib.Core.List.{List, [], _∷_}
 use lib.Dec.{leb}
 use lib.ListN.{drop}
@@ -11,7 +11,6 @@ use Rattle.rules.specs.declared.ends.Read.{Read}
 use Rattle.rules.specs.declared.ends.Read.the-variants.{Ends, Refused}
 use Rattle.rules.specs.Definition1.{Formula, Rule, empty}
 use Rattle.rules.specs.Definition2.{lastProposition}
-use Rattle.rules.specs.Kinds.{pick}
 use Rattle.rules.specs.Refusals.{number, place}
 use Rattle.rules.specs.Reading.{Outcome, good, fault, Need, rule, formula, body, Value, Rest, scan}
 use Rattle.rules.specs.Places.{FormulaAt, RuleAt}
@@ -22,7 +21,7 @@ use Rattle.rules.proofs.Once.{one-refusal}
 
 -- bytes that end what is needed and bytes that do not meet different faults
 module _ (e : ℕ) (x : Refusal) where
-  after-body : (b : Bool) (bs : List ℕ) → pick b (scan bs [] empty (e + 1)) (fault 5 e) ≡ fault 6 e → ⊥
+  after-body : (b : Bool) (bs : List ℕ) → cond b (scan bs [] empty (e + 1)) (fault 5 e) ≡ fault 6 e → ⊥
   after-body false bs q = let z : _≡_ {A = ℕ} 5 6 = cc in omega arith
   after-body true [] q = let z : _≡_ {A = ℕ} 0 1 = cc in omega arith
   after-body true (b ∷ bs) q = let z : e + 1 ≡ e = cc in omega arith

@@ -2,7 +2,7 @@
 use Prim.Native.Nat.{ℕ, _+_, _<_, _≤_}
 use native.Mathlib.Omega.{arith}
 use mathlib.Core.Path.{_≡_, refl, sym, ap, subst, _∙_}
-use mathlib.Core.Bool.{Bool, true, false}
+use mathlib.Core.Bool.{Bool, true, false, cond}
 use mathlib.Core.List.{List, [], _∷_}
 use lib.Dec.{leb}
 use lib.ListN.{length, getD, drop}
@@ -16,7 +16,7 @@ use Rattle.rules.specs.declared.Refusal.{Refusal}
 use Rattle.rules.specs.declared.ends.Read.{Read}
 use Rattle.rules.specs.declared.ends.Read.the-variants.{Ends, Refused}
 use Rattle.rules.specs.Definition1.{Formula, prop, yea, nay, neg, join, Rule, letter, empty, two, again}
-use Rattle.rules.specs.Kinds.{kindOf, pick}
+use Rattle.rules.specs.Kinds.{kindOf}
 use Rattle.rules.specs.Reading.{good, fault, Need, body, Rest, scan}
 use Rattle.rules.specs.Places.{Here, FormulaAt, a-prop, a-yea, a-nay, a-neg, a-join, RuleAt, a-letter, a-empty, a-two, a-again}
 use Rattle.rules.specs.Walks.{FormulaRead, RuleRead, shown}
@@ -133,7 +133,7 @@ stuck : (l : List ℕ) (e : ℕ) (x : Refusal) → ((ns : List Need) (k : Rest n
 stuck [] e x p = not-good empty x (p [] empty)
 stuck (b ∷ bs) e x p = go (leb b 5) (p (body ∷ []) (λ i. empty))
   where
-    go : (t : Bool) → pick t (scan bs [] empty (e + 1)) (fault 5 e) ≡ shown x → ⊥
+    go : (t : Bool) → cond t (scan bs [] empty (e + 1)) (fault 5 e) ≡ shown x → ⊥
     go true q = not-on bs e empty x (p [] empty) q
     go false q = not-6-5 x e (p [] empty) q
 

@@ -1,4 +1,5 @@
 -- What reading a whole rule comes to, for every string of bytes. Assumes nothing: these are definitions.
+use mathlib.Core.Bool.{cond}
 use Prim.Native.Nat.{ℕ, _≤_}
 use mathlib.Core.Path.{_≡_}
 use mathlib.Core.List.{List, [], _∷_}
@@ -8,7 +9,6 @@ use Rattle.rules.specs.declared.Known.{Known}
 use Rattle.rules.specs.declared.RuleAnswer.{RuleAnswer}
 use Rattle.rules.specs.declared.RuleAnswer.the-variants.{Accepted, Refused}
 use Rattle.rules.specs.Definition1.{Rule}
-use Rattle.rules.specs.Kinds.{pick}
 use Rattle.rules.specs.Weight.{weightOf, weightLimit}
 use Rattle.rules.specs.Refusals.{number, place}
 use Rattle.rules.specs.Reading.{Outcome, good, fault, rule, scan}
@@ -32,12 +32,12 @@ knownOf r = record { weight = weightOf r }
 
 -- the weight is tested last
 abbrev pub weighed : Outcome → Result
-weighed (good r) = pick (leb (weightOf r) weightLimit) (accepted (knownOf r)) (refused 7 0)
+weighed (good r) = cond (leb (weightOf r) weightLimit) (accepted (knownOf r)) (refused 7 0)
 weighed (fault n p) = refused n p
 
 -- the length is tested first
 abbrev pub answer : List ℕ → Result
-answer s = pick (ltb longestRule (length s)) (refused 1 0) (weighed (parse s))
+answer s = cond (ltb longestRule (length s)) (refused 1 0) (weighed (parse s))
 
 -- the bytes are accepted, as the spelling of the rule r
 pub record AcceptedAs (s : List ℕ) (r : Rule) : Type 0 where

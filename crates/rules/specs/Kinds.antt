@@ -1,6 +1,6 @@
 -- The house form: the table of kinds. Assumes nothing: these are definitions.
 use Prim.Native.Nat.{ℕ}
-use mathlib.Core.Bool.{Bool, true, false}
+use mathlib.Core.Bool.{cond}
 use mathlib.Core.List.{List, [], _∷_}
 use lib.Dec.{eqb}
 use Rattle.rules.specs.declared.kinds.Junction.the-variants.{And, Or}
@@ -38,14 +38,10 @@ table =
     ∷ row 0x18 (OfRule (Again Plus))
     ∷ []
 
--- the first of two where a test is true, else the second
-abbrev pub pick : {A : Type 0} → Bool → A → A → A
-pick true a b = a
-pick false a b = b
-
+-- the first row that has the byte; `cond` is the first of two where a test is true, else the second
 abbrev pub lookup : List Row → ℕ → Kind
 lookup [] b = Unknown
-lookup (r ∷ rs) b = pick (eqb b (r .byte)) (r .says) (lookup rs b)
+lookup (r ∷ rs) b = cond (eqb b (r .byte)) (r .says) (lookup rs b)
 
 -- what a kind byte says; a byte that no row has is unknown
 unfoldable pub kindOf : ℕ → Kind

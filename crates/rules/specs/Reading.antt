@@ -1,5 +1,6 @@
 -- How a rule is read: one pass over the bytes with a list of what is still needed. The first fault in reading order is the answer.
 -- Assumes nothing: these are definitions.
+use mathlib.Core.Bool.{cond}
 use Prim.Native.Nat.{ℕ, _+_}
 use mathlib.Core.List.{List, [], _∷_}
 use lib.Dec.{leb}
@@ -11,7 +12,7 @@ use Rattle.rules.specs.declared.kinds.Kind.{Kind}
 use Rattle.rules.specs.declared.kinds.Kind.the-variants.{OfFormula, OfRule, Unknown}
 use Rattle.rules.specs.Definition2.{lastProposition}
 use Rattle.rules.specs.Definition1.{Formula, prop, yea, nay, neg, join, Rule, letter, empty, two, again}
-use Rattle.rules.specs.Kinds.{kindOf, pick}
+use Rattle.rules.specs.Kinds.{kindOf}
 
 -- what reading comes to: a rule, or a refusal's number and place
 pub data Outcome : Type 0 where
@@ -64,7 +65,7 @@ takeFormula Unknown on ns k at = fault 3 at
 abbrev pub takeByte : (n : Need) → ℕ → On → (ns : List Need) → (Value n → Rest ns) → ℕ → Outcome
 takeByte rule b on ns k at = takeRule (kindOf b) on ns k at
 takeByte formula b on ns k at = takeFormula (kindOf b) on ns k at
-takeByte body b on ns k at = pick (leb b lastProposition) (on ns (k b) (at + 1)) (fault 5 at)
+takeByte body b on ns k at = cond (leb b lastProposition) (on ns (k b) (at + 1)) (fault 5 at)
 
 -- reading bytes: the needs in order, what is made of them, and the place of the first byte
 abbrev pub scan : List ℕ → On

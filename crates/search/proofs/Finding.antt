@@ -7,9 +7,11 @@ use native.Mathlib.Omega.{arith}
 use lib.ListN.{length, take}
 use Rattle.tables.specs.Table.{Table}
 use Rattle.models.specs.Model.{Model}
+use Rattle.tables.specs.Beyond.{Beyond}
+use Rattle.tables.proofs.Beyonds.{beyond-then}
 use Rattle.search.specs.declared.inner.Searched.{Searched}
 use Rattle.search.specs.declared.inner.Searched.the-variants.{Found, Nothing}
-use Rattle.search.specs.Lent.{Cleared, Beyond}
+use Rattle.search.specs.Lent.{Cleared}
 use Rattle.search.specs.Passes.{view, Ended, Useful, Ready, Picked}
 use Rattle.search.specs.Told.{RunKept, Answers}
 use Rattle.tables.proofs.TableOf.{final-out}
@@ -59,7 +61,7 @@ module _ (G : Given) where
 
 -- cleared, worked on, and cleared again
 pub cleared-again : {a b d e : List ℕ} → Cleared 4096 a b → Beyond 4096 b d → Cleared 4096 d e → Cleared 4096 a e
-cleared-again x y z = record { size = z .size ∙ y .size ∙ x .size; zeros = z .zeros; rest = λ i h. z .rest i h ∙ y .rest i h ∙ x .rest i h }
+cleared-again x y z = record { zeros = z .zeros; beyond = beyond-then (beyond-then (x .beyond) y) (z .beyond) }
 
 -- the output keeps its length
 pub kept-size : (a : Searched) (run run′ : List ℕ) → RunKept a run run′ → length run′ ≡ length run

@@ -13,7 +13,6 @@ use Rattle.bits.specs.Word.{bit, Lowest}
 use Rattle.tables.specs.Table.{Table}
 use Rattle.tables.proofs.TableOf.{edge-out}
 use Rattle.models.specs.Model.{Model}
-use Rattle.search.specs.Lent.{Beyond}
 use Rattle.search.specs.Passes.{Members, Under, view, Left, Ready, Onward, CanNext, Picked}
 use Rattle.search.proofs.Members.{members-first, not-zero, lowest-is, lowest-least}
 use Rattle.search.proofs.Given.{Given, modelFor, tableFor, labelsFor, fair}
@@ -154,10 +153,3 @@ module _ (G : Given) where
                   reads = y .0 .reads;
                   on = test (y .0 .from) p (y .0 .held) (y .0 .reads) .0 (y .1 .is .on ∙ add-one level ∙ ap suc (sym size), y .1 .is .useful);
                 }
-
--- what stands past the run is as it was
-pub beyond-none : (k : ℕ) (a : List ℕ) → Beyond k a a
-beyond-none k a = record { size = refl; rest = λ i h. refl }
-
-pub beyond-next : {k : ℕ} {a b : List ℕ} (at v : ℕ) → Beyond k a b → at < k → Beyond k a (set b at v)
-beyond-next {b = b} at v x h = record { size = length-set b at v ∙ x .size; rest = λ i l. getD-set-other b at i v 0 (omega arith) ∙ x .rest i l }

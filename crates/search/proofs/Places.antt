@@ -14,6 +14,7 @@ use lib.Seq.{getD-set-same, getD-set-other}
 use Rattle.bits.specs.Says.{Says}
 use Rattle.tables.specs.Table.{finalOf}
 use Rattle.tables.proofs.TableOf.{final-out, final-in}
+use Rattle.tables.proofs.Beyonds.{beyond-none, beyond-next, beyond-more}
 use Rattle.search.specs.Lent.{Cleared}
 use Rattle.search.specs.Passes.{Members, OnLevel, Step, FinalIn}
 use Rattle.bits.proofs.Sayings.{says-map}
@@ -26,10 +27,10 @@ mark-one j a at l h z = subst (λ (v : ℕ). Step j a (set a at v) (λ i. i ≡ 
 -- ---- clearing
 
 pub cleared-none : (a : List ℕ) → Cleared 0 a a
-cleared-none a = record { size = refl; zeros = λ i h. absurd (omega arith); rest = λ i h. refl }
+cleared-none a = record { zeros = λ i h. absurd (omega arith); beyond = beyond-none 0 a }
 
 pub cleared-next : {a b : List ℕ} (n : ℕ) → Cleared n a b → n < length b → Cleared (n + 1) a (set b n 0)
-cleared-next {a} {b} n c h = record { size = length-set b n 0 ∙ c .size; zeros = λ i l. zeros i l (ℕ-discrete i n); rest = λ i l. getD-set-other b n i 0 0 (omega arith) ∙ c .rest i (omega arith) }
+cleared-next {a} {b} n c h = record { zeros = λ i l. zeros i l (ℕ-discrete i n); beyond = beyond-next n 0 (beyond-more (c .beyond) (omega arith)) (omega arith) }
   where
     zeros : (i : ℕ) → i < n + 1 → Dec (i ≡ n) → getD (set b n 0) i 0 ≡ 0
     zeros i l (yes e) = ap (λ (x : ℕ). getD (set b n 0) x 0) e ∙ getD-set-same b n 0 0 h

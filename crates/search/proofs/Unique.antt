@@ -4,16 +4,17 @@ use mathlib.Core.Path.{_≡_, refl, ap, ap₂, sym, subst, _∙_}
 use mathlib.Core.Logic.{_⊎_}
 use mathlib.Core.List.{List, []}
 use native.Mathlib.Omega.{arith}
-use native.Mathlib.Decide.{decLt}
 use lib.ListN.{length, getD, take}
-use lib.Seq.{ext-getD, getD-take, length-take-le}
+use lib.Seq.{getD-take, length-take-le}
 use Rattle.rules.specs.Definition1.{Rule}
 use Rattle.tables.specs.Table.{Table}
 use Rattle.tables.specs.Promise.{Serves}
 use Rattle.models.specs.Model.{Model}
+use Rattle.tables.specs.Beyond.{Beyond}
+use Rattle.tables.proofs.Beyonds.{beyond-once}
 use Rattle.search.specs.declared.inner.Searched.{Searched}
 use Rattle.search.specs.declared.inner.Searched.the-variants.{Found, Nothing}
-use Rattle.search.specs.Lent.{Cleared, Beyond}
+use Rattle.search.specs.Lent.{Cleared}
 use Rattle.search.specs.Told.{answerOf, RunKept, SearchedTable}
 use Rattle.search.specs.Right.{Before, here, there, Count, none, counted, passed, Reached, Shown, Answer, found, nothing, Right}
 
@@ -57,18 +58,10 @@ one-answer M A f (nothing c) (nothing d) x y = ap nothing (count-same (λ i w. w
 -- ---- and what was lent is left in one way
 
 pub cleared-same : (n : ℕ) (a b d : List ℕ) → Cleared n a b → Cleared n a d → b ≡ d
-cleared-same n a b d x y = ext-getD 0 b d (x .size ∙ sym (y .size)) (λ i h. at i (decLt i n))
-  where
-    at : (i : ℕ) → Dec (i < n) → getD b i 0 ≡ getD d i 0
-    at i (yes h) = x .zeros i h ∙ sym (y .zeros i h)
-    at i (no h) = x .rest i (omega arith) ∙ sym (y .rest i (omega arith))
+cleared-same n a b d x y = beyond-once n a b d (x .beyond) (y .beyond) (λ i h. x .zeros i h ∙ sym (y .zeros i h))
 
 pub runs-same : (n : ℕ) (a b d : List ℕ) → Beyond n a b → Beyond n a d → take n b ≡ take n d → b ≡ d
-runs-same n a b d x y e = ext-getD 0 b d (x .size ∙ sym (y .size)) (λ i h. at i (decLt i n))
-  where
-    at : (i : ℕ) → Dec (i < n) → getD b i 0 ≡ getD d i 0
-    at i (yes h) = sym (getD-take n b i 0 h) ∙ ap (λ (l : List ℕ). getD l i 0) e ∙ getD-take n d i 0 h
-    at i (no h) = x .rest i (omega arith) ∙ sym (y .rest i (omega arith))
+runs-same n a b d x y e = beyond-once n a b d x y (λ i h. sym (getD-take n b i 0 h) ∙ ap (λ (l : List ℕ). getD l i 0) e ∙ getD-take n d i 0 h)
 
 run-of : Answer → List ℕ
 run-of (found r c) = r

@@ -2,7 +2,8 @@
 ghost use mathlib.Core.Path.{_≡_};
 ghost use Prim.Native.Nat.{ℕ, _<_, _≤_};
 ghost use lib.ListN.{length, getD};
-ghost use Rattle.search.specs.Lent.{modelIn, tableIn, Beyond, LentTable, LentLetters};
+ghost use Rattle.tables.specs.Beyond.{Beyond};
+ghost use Rattle.search.specs.Lent.{modelIn, tableIn, LentTable, LentLetters};
 ghost use Rattle.search.specs.Told.{Answers, SearchedTable};
 use crate::backward::backward;
 use crate::choose::pick;

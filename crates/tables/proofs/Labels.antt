@@ -4,14 +4,13 @@ use native.Mathlib.Omega.{arith}
 use native.Mathlib.Decide.{ℕ-discrete}
 use mathlib.Core.Path.{_≡_}
 use mathlib.Core.Logic.{_⊎_, inl, inr, ⊎-map, _↔_}
-use mathlib.Core.Bool.{Bool, true, false}
+use mathlib.Core.Bool.{Bool, true, false, cond}
 use mathlib.Core.List.{List}
 use lib.Bits.{bitAnd, bitOr}
 use lib.Dec.{T}
 use borrow.Author.Tests.{lt-ltb, le-ltb}
 use Rattle.bits.specs.Word.{bit}
 use Rattle.bits.proofs.Laws.{bit-or, bit-and, bit-zero}
-use Rattle.rules.specs.Kinds.{pick}
 use Rattle.tables.specs.Table.{cell}
 use Rattle.tables.specs.Cells.{linked, overlapped, chosen, paired}
 use Rattle.bits.proofs.Truths.{and-T, or-T}
@@ -30,15 +29,15 @@ pub has-and : (v w x : ℕ) → Has (bitAnd v w) x ↔ (Has v x × Has w x)
 has-and v w x = rw (bit-and v w x) (and-T (bit v x) (bit w x))
 
 -- w is added where c holds
-pub has-pick : (c : Bool) (v w x : ℕ) → Has (pick c (bitOr v w) v) x ↔ (Has v x ⊎ (T c × Has w x))
-has-pick true v w x = let e = has-or v w x in (λ t. ⊎-map (λ h. h) (λ h. (tt, h)) (e .0 t), λ h. e .1 (⊎-map (λ k. k) (λ k. k .1) h))
-has-pick false v w x = (inl, elim [ inl h ↦ h | inr h ↦ absurd (h .0) ])
+pub has-cond : (c : Bool) (v w x : ℕ) → Has (cond c (bitOr v w) v) x ↔ (Has v x ⊎ (T c × Has w x))
+has-cond true v w x = let e = has-or v w x in (λ t. ⊎-map (λ h. h) (λ h. (tt, h)) (e .0 t), λ h. e .1 (⊎-map (λ k. k) (λ k. k .1) h))
+has-cond false v w x = (inl, elim [ inl h ↦ h | inr h ↦ absurd (h .0) ])
 
 module _ (t : List ℕ) where
   -- a final row gets what leaves src
   pub has-linked : (src f p q x : ℕ) → Has (linked t src f p q) x ↔ (Has (cell t p q) x ⊎ (T (bit f p) × Has (cell t src q) x))
   unfolding linked
-  has-linked src f p q x = has-pick (bit f p) (cell t p q) (cell t src q) x
+  has-linked src f p q x = has-cond (bit f p) (cell t p q) (cell t src q) x
 
   -- by way of a final, from p to it and from src to q
   pub record Way (f a src k p q x : ℕ) : Type 0 where
@@ -52,7 +51,7 @@ module _ (t : List ℕ) where
   unfolding overlapped
   overlapped-out f a src zero p q x h = inl h
   overlapped-out f a src (suc k) p q x h =
-      go (has-pick (bit f (a + k)) (overlapped t f a src k p q) (bitAnd (cell t p (a + k)) (cell t src q)) x .0 h) (overlapped-out f a src k p q x)
+      go (has-cond (bit f (a + k)) (overlapped t f a src k p q) (bitAnd (cell t p (a + k)) (cell t src q)) x .0 h) (overlapped-out f a src k p q x)
     where
       wider : Has (cell t p q) x ⊎ Way f a src k p q x → Has (cell t p q) x ⊎ Way f a src (suc k) p q x
       wider (inl h) = inl h
@@ -70,7 +69,7 @@ module _ (t : List ℕ) where
   overlapped-in f a src zero p q x (inl h) = h
   overlapped-in f a src zero p q x (inr h) = let l = h .inside in absurd (omega arith)
   overlapped-in f a src (suc k) p q x h =
-      has-pick (bit f (a + k)) (overlapped t f a src k p q) (bitAnd (cell t p (a + k)) (cell t src q)) x .1 (go h (overlapped-in f a src k p q x))
+      has-cond (bit f (a + k)) (overlapped t f a src k p q) (bitAnd (cell t p (a + k)) (cell t src q)) x .1 (go h (overlapped-in f a src k p q x))
     where
       way : (w : Way f a src (suc k) p q x) → Dec (w .by ≡ k) → (Has (cell t p q) x ⊎ Way f a src k p q x → Has (overlapped t f a src k p q) x)
           → Has (overlapped t f a src k p q) x ⊎ (T (bit f (a + k)) × Has (bitAnd (cell t p (a + k)) (cell t src q)) x)

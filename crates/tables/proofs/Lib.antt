@@ -24,4 +24,5 @@ pub mod FinalSets
 pub mod Shaping
 pub mod Building
 pub mod Tabling
+pub mod Beyonds
 pub mod Once

@@ -1,12 +1,11 @@
 -- Laws of `linked`.
 use mathlib.Core.Path.{_≡_, refl, _∙_}
 use mathlib.Core.List.{List}
-use mathlib.Core.Bool.{Bool, true, false}
+use mathlib.Core.Bool.{Bool, true, false, cond}
 use Prim.Native.Nat.{ℕ, _+_, _<_, _≤_}
 use native.Mathlib.Omega.{arith}
 use lib.Bits.{bitOr, or-self}
 use Rattle.bits.specs.Word.{bit}
-use Rattle.rules.specs.Kinds.{pick}
 use Rattle.tables.specs.Table.{cell}
 use Rattle.tables.specs.Cells.{Put, In, linked}
 use Rattle.tables.proofs.Puts.{put-down, dec-in}
@@ -23,14 +22,14 @@ pub linked-same : (t u : List ℕ) (src f p q : ℕ) → cell t p q ≡ cell u p
 unfolding linked
 linked-same t u src f p q e h = cc
 
-pick-same : (b : Bool) (x y : ℕ) → x ≡ y → pick b x y ≡ y
-pick-same true x y e = e
-pick-same false x y e = refl
+cond-same : (b : Bool) (x y : ℕ) → x ≡ y → cond b x y ≡ y
+cond-same true x y e = e
+cond-same false x y e = refl
 
 -- what leaves src stays
 pub linked-src : (t : List ℕ) (src f q : ℕ) → linked t src f src q ≡ cell t src q
 unfolding linked
-linked-src t src f q = pick-same (bit f src) _ _ (or-self (cell t src q))
+linked-src t src f q = cond-same (bit f src) _ _ (or-self (cell t src q))
 
 -- a row more
 module _ (t₀ t₁ t₂ : List ℕ) (a b c d src f : ℕ) (l : a ≤ b) (n : d ≤ 64) (x : Put t₀ t₁ a b c d (linked t₀ src f)) where

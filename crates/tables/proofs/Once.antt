@@ -1,11 +1,9 @@
 -- No second answer and no second slice fit the promise of `build`; and what it leaves in the slice serves the rule. Assumes nothing.
 use Prim.Native.Nat.{ℕ, _+_, _*_, _/_, _%_, _^_, _<_}
 use native.Mathlib.Omega.{arith}
-use native.Mathlib.Decide.{decLt}
 use mathlib.Core.Path.{_≡_, refl, sym, ap, ap₂, subst, _∙_}
 use mathlib.Core.List.{List}
 use lib.ListN.{getD}
-use lib.Seq.{ext-getD}
 use Rattle.rules.specs.declared.Known.{Known}
 use Rattle.rules.specs.Definition1.{Rule}
 use Rattle.rules.specs.Answer.{AcceptedAs, knownOf}
@@ -16,23 +14,24 @@ use Rattle.tables.specs.declared.TableAnswer.the-variants.{Tabled, RuleR
 use Rattle.tables.specs.Table.{tableOf}
 use Rattle.tables.specs.Promise.{Serves}
 use Rattle.tables.specs.IsTable.{IsTable, Words}
-use Rattle.tables.specs.Answer.{Result, tabled, refused, told, SamePast, Right, rule-refused, short-table, the-table}
+use Rattle.tables.specs.Beyond.{Beyond}
+use Rattle.tables.specs.Answer.{Result, tabled, refused, told, Right, rule-refused, short-table, the-table}
+use Rattle.tables.proofs.Beyonds.{beyond-once}
 use Rattle.tables.proofs.Serving.{one-table, one-finals, serves}
 
 module _ (s t : List ℕ) where
   -- two slices with the rule's table in front and t's entries past it
-  module _ (r : Rule) (f g : ℕ) (u v : List ℕ) (i : IsTable r u f) (j : IsTable r v g) (hu : Words u) (hv : Words v) (p : SamePast t u) (q : SamePast t v) where
-    entry : (k : ℕ) → Dec (k < 4096) → getD u k 0 ≡ getD v k 0
-    entry k (yes l) =
+  module _ (r : Rule) (f g : ℕ) (u v : List ℕ) (i : IsTable r u f) (j : IsTable r v g) (hu : Words u) (hv : Words v) (p : Beyond 4096 t u) (q : Beyond 4096 t v) where
+    entry : (k : ℕ) → k < 4096 → getD u k 0 ≡ getD v k 0
+    entry k l =
         let z : 64 * (k / 64) + k % 64 ≡ k = omega arith in
         subst (λ (n : ℕ). getD u n 0 ≡ getD v n 0) z (one-table r u v f g i j hu hv (k / 64) (k % 64) (omega arith) (omega arith))
-    entry k (no n) = p .past k (omega arith) ∙ sym (q .past k (omega arith))
 
     same-slice : u ≡ v
-    same-slice = ext-getD 0 u v (p .as-long ∙ sym (q .as-long)) (λ k l. entry k (decLt k 4096))
+    same-slice = beyond-once 4096 t u v p q entry
 
   module _ (u v : List ℕ) (hu : Words u) (hv : Words v) where
-    same-table : (r r′ : Rule) (f g : ℕ) → r ≡ r′ → f < 2 ^ 64 → g < 2 ^ 64 → IsTable r u f → IsTable r′ v g → SamePast t u → SamePast t v
+    same-table : (r r′ : Rule) (f g : ℕ) → r ≡ r′ → f < 2 ^ 64 → g < 2 ^ 64 → IsTable r u f → IsTable r′ v g → Beyond 4096 t u → Beyond 4096 t v
         → (tabled (knownOf r) f ≡ tabled (knownOf r′) g) × (u ≡ v)
     same-table r r′ f g e lf lg i j p q =
         let j′ : IsTable r v g = rw e j in

@@ -1,12 +1,11 @@
 -- Laws of `overlapped` and `chosen`.
 use mathlib.Core.Path.{_≡_, refl, sym, ap, ap₂, _∙_}
 use mathlib.Core.List.{List}
-use mathlib.Core.Bool.{true, false}
+use mathlib.Core.Bool.{true, false, cond}
 use Prim.Native.Nat.{ℕ, zero, suc, _+_, _-_, _<_, _≤_}
 use native.Mathlib.Omega.{arith}
 use lib.Bits.{bitOr, bitAnd}
 use Rattle.bits.specs.Word.{bit}
-use Rattle.rules.specs.Kinds.{pick}
 use Rattle.tables.specs.Table.{cell}
 use Rattle.tables.specs.Cells.{Put, overlapped, overlappedBy, chosen}
 use Rattle.tables.proofs.Puts.{put-over, put-down, put-right, put-as, put-keep}
@@ -21,7 +20,7 @@ unfolding overlappedBy
 one-plain t fs src f p q e = rw e
 
 overlapped-suc : (t : List ℕ) (fs a src k p q : ℕ)
-    → overlapped t fs a src (suc k) p q ≡ pick (bit fs (a + k)) (bitOr (overlapped t fs a src k p q) (bitAnd (cell t p (a + k)) (cell t src q))) (overlapped t fs a src k p q)
+    → overlapped t fs a src (suc k) p q ≡ cond (bit fs (a + k)) (bitOr (overlapped t fs a src k p q) (bitAnd (cell t p (a + k)) (cell t src q))) (overlapped t fs a src k p q)
 unfolding overlapped
 overlapped-suc t fs a src k p q = refl
 

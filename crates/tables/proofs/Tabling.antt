@@ -58,4 +58,4 @@ module _ (s : List ℕ) (a : RuleAnswer) (q : rules.told a ≡ answer s) where
           let light = i .1 .light in
           rw (i .2)
           (the-table (i .1) l small (is-table t₁ t₂ (h .finals) (i .0) (ready-whole t t₁ l d clear .clean) light made (u .told (i .0) (length s) stands .final-set))
-          (record { as-long = d′; past = past-at (i .0) light made }))
+          (record { size = d′; rest = past-at (i .0) light made }))

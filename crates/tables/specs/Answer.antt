@@ -2,7 +2,7 @@
 use Prim.Native.Nat.{ℕ, _^_, _<_, _≤_}
 use mathlib.Core.Path.{_≡_}
 use mathlib.Core.List.{List}
-use lib.ListN.{length, getD}
+use lib.ListN.{length}
 use Rattle.rules.specs.declared.Known.{Known}
 use Rattle.rules.specs.Definition1.{Rule}
 use Rattle.rules.specs.Refusals.{number, place}
@@ -10,6 +10,7 @@ use Rattle.rules.specs.Answer.{answer, AcceptedAs, knownOf}
 use Rattle.tables.specs.declared.TableAnswer.{TableAnswer}
 use Rattle.tables.specs.declared.TableAnswer.the-variants.{Tabled, RuleRefused, ShortTable}
 use Rattle.tables.specs.Cells.{tableEntries}
+use Rattle.tables.specs.Beyond.{Beyond}
 use Rattle.tables.specs.IsTable.{IsTable}
 
 -- what is known of the rule and its set of finals, with the table in the slice; or refused, with number and place
@@ -23,14 +24,9 @@ told (Tabled k f) = tabled k f
 told (RuleRefused x) = refused (number x) (place x)
 told ShortTable = refused 21 0
 
--- t′ has as many entries as t, and the same ones past the table
-pub record SamePast (t t′ : List ℕ) : Type 0 where
-  pub as-long : length t′ ≡ length t
-  pub past : (k : ℕ) → tableEntries ≤ k → getD t′ k 0 ≡ getD t k 0
-
 -- the right result for the rule's bytes s and the slice t, which is t′ after the call: the rule's own refusal, then 21, and the slice as it was;
--- else the slice begins with the rule's table
+-- else the slice begins with the rule's table and is as it was past it
 pub data Right (s t t′ : List ℕ) : Result → Type 0 where
   rule-refused : {n p : ℕ} → answer s ≡ Rattle.rules.specs.Answer.refused n p → t′ ≡ t → Right s t t′ (refused n p)
   short-table : {r : Rule} → AcceptedAs s r → length t < tableEntries → t′ ≡ t → Right s t t′ (refused 21 0)
-  the-table : {r : Rule} {f : ℕ} → AcceptedAs s r → tableEntries ≤ length t → f < 2 ^ 64 → IsTable r t′ f → SamePast t t′ → Right s t t′ (tabled (knownOf r) f)
+  the-table : {r : Rule} {f : ℕ} → AcceptedAs s r → tableEntries ≤ length t → f < 2 ^ 64 → IsTable r t′ f → Beyond tableEntries t t′ → Right s t t′ (tabled (knownOf r) f)

@@ -1,11 +1,11 @@
 -- What a store in a table leaves behind: a rectangle with new labels, and all else as it was. Assumes nothing: these are definitions.
+use mathlib.Core.Bool.{cond}
 use mathlib.Core.Path.{_≡_}
 use mathlib.Core.List.{List}
 use Prim.Native.Nat.{ℕ, suc, zero, _+_, _-_, _/_, _%_, _<_, _≤_}
 use lib.Bits.{bitOr, bitAnd}
 use lib.Dec.{ltb}
 use Rattle.bits.specs.Word.{bit}
-use Rattle.rules.specs.Kinds.{pick}
 use Rattle.tables.specs.Table.{cell}
 
 -- a lent table has at least this many entries
@@ -30,21 +30,21 @@ pub record Clean (t : List ℕ) (base : ℕ) : Type 0 where
 
 -- a final row gets what leaves src
 unfoldable pub linked : List ℕ → ℕ → ℕ → ℕ → ℕ → ℕ
-linked t src finals p q = pick (bit finals p) (bitOr (cell t p q) (cell t src q)) (cell t p q)
+linked t src finals p q = cond (bit finals p) (bitOr (cell t p q) (cell t src q)) (cell t p q)
 
 -- by way of f, if it is final: what leads from p to f and from src to q
 unfoldable pub overlappedBy : List ℕ → ℕ → ℕ → ℕ → ℕ → ℕ → ℕ
-overlappedBy t finals src f p q = pick (bit finals f) (bitOr (cell t p q) (bitAnd (cell t p f) (cell t src q))) (cell t p q)
+overlappedBy t finals src f p q = cond (bit finals f) (bitOr (cell t p q) (bitAnd (cell t p f) (cell t src q))) (cell t p q)
 
 -- by way of any final among the first k states from a on
 unfoldable pub overlapped : List ℕ → ℕ → ℕ → ℕ → ℕ → ℕ → ℕ → ℕ
 overlapped t finals a src zero p q = cell t p q
 overlapped t finals a src (suc k) p q =
-    pick (bit finals (a + k)) (bitOr (overlapped t finals a src k p q) (bitAnd (cell t p (a + k)) (cell t src q))) (overlapped t finals a src k p q)
+    cond (bit finals (a + k)) (bitOr (overlapped t finals a src k p q) (bitAnd (cell t p (a + k)) (cell t src q))) (overlapped t finals a src k p q)
 
 -- what leaves base + 1 in the columns up to b, and what leaves b in those from b on
 unfoldable pub chosen : List ℕ → ℕ → ℕ → ℕ → ℕ → ℕ
-chosen t base b p q = bitOr (cell t p q) (pick (ltb q b) (cell t (base + 1) q) (cell t b q))
+chosen t base b p q = bitOr (cell t p q) (cond (ltb q b) (cell t (base + 1) q) (cell t b q))
 
 -- a pair's label, from a's block of m states at base and b's of n states after it
 unfoldable pub paired : List ℕ → ℕ → ℕ → ℕ → ℕ → ℕ → ℕ

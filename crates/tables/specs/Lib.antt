@@ -8,4 +8,5 @@ pub mod Block
 pub mod Sets
 pub mod Shapes
 pub mod Building
+pub mod Beyond
 pub mod Answer

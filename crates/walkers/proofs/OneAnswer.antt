@@ -1,9 +1,9 @@
 -- No second answer fits a promise: what is told determines the answer. Assumes nothing.
+use mathlib.Core.Bool.{cond}
 use Prim.Native.Nat.{ℕ}
 use mathlib.Core.Path.{_≡_, refl, sym, ap, _∙_}
 use mathlib.Core.List.{List}
 use lib.Dec.{eqb}
-use Rattle.rules.specs.Kinds.{pick}
 use Rattle.walkers.specs.declared.Walker.{Walker}
 use Rattle.walkers.specs.declared.Refusal.{Refusal}
 use Rattle.walkers.specs.declared.Refusal.the-variants.{ShortTable, BadLetter}
@@ -17,7 +17,7 @@ use Rattle.walkers.specs.Walks.{ending, followOf}
 
 -- the refusal of a number and a place
 abbrev refusalOf : ℕ → ℕ → Refusal
-refusalOf n i = pick (eqb n 21) ShortTable (BadLetter i)
+refusalOf n i = cond (eqb n 21) ShortTable (BadLetter i)
 
 abbrev answerOf : Outcome → StepAnswer
 answerOf (flag b) = step-variants.Moved b

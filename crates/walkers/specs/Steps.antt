@@ -1,12 +1,11 @@
 -- What one step of a walker gives. Assumes nothing: these are definitions.
 use Prim.Native.Nat.{ℕ}
-use mathlib.Core.Bool.{Bool, _&&_}
+use mathlib.Core.Bool.{Bool, _&&_, cond}
 use mathlib.Core.List.{List}
 use lib.Dec.{ltb}
 use lib.ListN.{length}
 use Rattle.bits.specs.Word.{bit, word, any}
 use Rattle.rules.specs.Definition2.{letterCount}
-use Rattle.rules.specs.Kinds.{pick}
 use Rattle.tables.specs.Table.{cell}
 use Rattle.tables.specs.Cells.{tableEntries}
 use Rattle.walkers.specs.declared.Walker.{Walker}
@@ -63,5 +62,5 @@ movedBy t w x = record {
 -- one step over whatever table is lent; a refusal gives the walker back as it came
 unfoldable pub stepOf : List ℕ → Walker → ℕ → Told
 stepOf t w x =
-    pick (ltb (length t) tableEntries) (record { walker = w; says = refusal 21 0 })
-    (pick (ltb x letterCount) (movedBy t w x) (record { walker = w; says = refusal 22 0 }))
+    cond (ltb (length t) tableEntries) (record { walker = w; says = refusal 21 0 })
+    (cond (ltb x letterCount) (movedBy t w x) (record { walker = w; says = refusal 22 0 }))

@@ -1,10 +1,10 @@
 -- What a walk over a sequence of letters gives. Assumes nothing: these are definitions.
+use mathlib.Core.Bool.{cond}
 use Prim.Native.Nat.{ℕ, _+_}
 use mathlib.Core.List.{List, [], _∷_}
 use lib.Dec.{ltb}
 use lib.ListN.{length}
 use Rattle.rules.specs.Definition2.{letterCount}
-use Rattle.rules.specs.Kinds.{pick}
 use Rattle.walkers.specs.declared.Walker.{Walker}
 use Rattle.walkers.specs.declared.FollowAnswer.{FollowAnswer}
 use Rattle.walkers.specs.declared.FollowAnswer.the-variants.{Ended, Refused}
@@ -14,11 +14,11 @@ use Rattle.walkers.specs.Steps.{advanced, meets, startOf, Outcome, flag,
 -- the letters from place i on: the first that is no letter is refused, and after the last it is told whether a final is in the set
 unfoldable pub followFrom : List ℕ → ℕ → ℕ → ℕ → List ℕ → Outcome
 followFrom t finals set i [] = flag (meets set finals)
-followFrom t finals set i (x ∷ w) = pick (ltb x letterCount) (followFrom t finals (advanced t set x) (i + 1) w) (refusal 22 i)
+followFrom t finals set i (x ∷ w) = cond (ltb x letterCount) (followFrom t finals (advanced t set x) (i + 1) w) (refusal 22 i)
 
 -- all letters, from {0}
 unfoldable pub followOf : List ℕ → ℕ → List ℕ → Outcome
-followOf t finals w = pick (ltb (length t) tableEntries) (refusal 21 0) (followFrom t finals (startOf finals .set) 0 w)
+followOf t finals w = cond (ltb (length t) tableEntries) (refusal 21 0) (followFrom t finals (startOf finals .set) 0 w)
 
 -- an answer of `follow` in the paper's terms
 abbrev pub ending : FollowAnswer → Outcome

@@ -2,7 +2,7 @@
 -- later than its rule, and a repetition is judged where its operand stands. Assumes nothing.
 use Prim.Native.Nat.{ℕ, _+_, _-_, _*_, _<_}
 use native.Mathlib.Omega.{arith}
-use mathlib.Core.Path.{_≡_, _∙_}
+use mathlib.Core.Path.{_≡_, _∙_, sym, ap}
 use mathlib.Core.Logic.{⊎-elim}
 use borrow.Author.Needs.{needs}
 use borrow.Fn.Kinds.{In}
@@ -80,7 +80,7 @@ judge-at-add-letter-parts : (t : ℕ) → judge-at-lts.Need-add-letter-parts (ju
 judge-at-add-letter-parts t c = let s = c .before .before .before .before .before .before .before .before .before .args .rule .now in let at = c .before .before .before .before .before .before .before .before .before .args .at in let g = c .before .before .before .before .before .before .before .before .before .pre .1 .0 in let l = rule-here s at g in omega arith
 
 judge-at-letter-parts-requires : (t : ℕ) → judge-at-lts.Need-letter-parts-requires (judge-at-calls t) (judge-at-at t) judge-at.Post
-judge-at-letter-parts-requires t c κs = let s = c .before .before .before .before .before .before .before .before .before .args .rule .now in let at = c .before .before .before .before .before .before .before .before .before .args .at in let g = c .before .before .before .before .before .before .before .before .before .pre .1 .0 in let l = rule-here s at g in let q : kindOf (getD s at 0) ≡ OfRule Letter = cc in good-letter s at g q
+judge-at-letter-parts-requires t c κs = let s = c .before .before .before .before .before .before .before .before .before .args .rule .now in let at = c .before .before .before .before .before .before .before .before .before .args .at in let g = c .before .before .before .before .before .before .before .before .before .pre .1 .0 in let l = rule-here s at g in let q : kindOf (getD s at 0) ≡ OfRule Letter = sym (c .before .before .before .before .before .kind-of .ensures) ∙ c .before .before .before .kind .given .1 ∙ ap OfRule (c .enum-told .given .1) in good-letter s at g q
 
 judge-at-enum-told-2 : (t : ℕ) → judge-at-lts.Need-enum-told-2 (judge-at-calls t) (judge-at-at t) judge-at.Post
 judge-at-enum-told-2 t c = search needs
@@ -95,7 +95,7 @@ judge-at-add-judge-repeat : (t : ℕ) → judge-at-lts.Need-add-judge-repeat (ju
 judge-at-add-judge-repeat t c = let s = c .before .before .before .before .before .before .before .before .before .before .args .rule .now in let at = c .before .before .before .before .before .before .before .before .before .before .args .at in let g = c .before .before .before .before .before .before .before .before .before .before .pre .1 .0 in let l = rule-here s at g in omega arith
 
 judge-at-judge-repeat-requires : (t : ℕ) → judge-at-lts.Need-judge-repeat-requires (judge-at-calls t) (judge-at-at t) judge-at.Post
-judge-at-judge-repeat-requires t c κs = let s = c .before .before .before .before .before .before .before .before .before .before .args .rule .now in let at = c .before .before .before .before .before .before .before .before .before .before .args .at in let g = c .before .before .before .before .before .before .before .before .before .before .pre .1 .0 in let l = rule-here s at g in let q : kindOf (getD s at 0) ≡ OfRule (Again (c .before .kind2 .given .0 .0)) = cc in (omega arith, (good-again s at g _ q, c .before .before .before .before .before .before .before .before .before .before .pre .1 .1))
+judge-at-judge-repeat-requires t c κs = let s = c .before .before .before .before .before .before .before .before .before .before .args .rule .now in let at = c .before .before .before .before .before .before .before .before .before .before .args .at in let g = c .before .before .before .before .before .before .before .before .before .before .pre .1 .0 in let l = rule-here s at g in let q : kindOf (getD s at 0) ≡ OfRule (Again (c .before .kind2 .given .0 .0)) = sym (c .before .before .before .before .before .before .kind-of .ensures) ∙ c .before .before .before .before .kind .given .1 ∙ ap OfRule (c .before .kind2 .given .1) in (omega arith, (good-again s at g _ q, c .before .before .before .before .before .before .before .before .before .before .pre .1 .1))
 
 judge-at-enum-known-kind-3 : (t : ℕ) → judge-at-lts.Need-enum-known-kind-3 (judge-at-calls t) (judge-at-at t) judge-at.Post
 judge-at-enum-known-kind-3 t c = search needs
@@ -104,31 +104,31 @@ judge-at-add-judge-at : (t : ℕ) → judge-at-lts.Need-add-judge-at (judge-at-c
 judge-at-add-judge-at t c = let s = c .before .before .before .before .before .before .before .before .before .before .args .rule .now in let at = c .before .before .before .before .before .before .before .before .before .before .args .at in let g = c .before .before .before .before .before .before .before .before .before .before .pre .1 .0 in let l = rule-here s at g in omega arith
 
 judge-at-judge-at-requires : (t : ℕ) → judge-at-lts.Need-judge-at-requires (judge-at-calls t) (judge-at-at t) judge-at.Post
-judge-at-judge-at-requires t c κs = let s = c .before .before .before .before .before .before .before .before .before .before .args .rule .now in let at = c .before .before .before .before .before .before .before .before .before .before .args .at in let g = c .before .before .before .before .before .before .before .before .before .before .pre .1 .0 in let l = rule-here s at g in let q : kindOf (getD s at 0) ≡ OfRule (Two (c .before .kind3 .given .0 .0)) = cc in (omega arith, (good-first s at g _ q, c .before .before .before .before .before .before .before .before .before .before .pre .1 .1))
+judge-at-judge-at-requires t c κs = let s = c .before .before .before .before .before .before .before .before .before .before .args .rule .now in let at = c .before .before .before .before .before .before .before .before .before .before .args .at in let g = c .before .before .before .before .before .before .before .before .before .before .pre .1 .0 in let l = rule-here s at g in let q : kindOf (getD s at 0) ≡ OfRule (Two (c .before .kind3 .given .0 .0)) = sym (c .before .before .before .before .before .before .kind-of .ensures) ∙ c .before .before .before .before .kind .given .1 ∙ ap OfRule (c .before .kind3 .given .1) in (omega arith, (good-first s at g _ q, c .before .before .before .before .before .before .before .before .before .before .pre .1 .1))
 
 judge-at-add-rule-past : (t : ℕ) → judge-at-lts.Need-add-rule-past (judge-at-calls t) (judge-at-at t) judge-at.Post
 judge-at-add-rule-past t c = let s = c .before .before .before .before .before .before .before .before .before .before .before .args .rule .now in let at = c .before .before .before .before .before .before .before .before .before .before .before .args .at in let g = c .before .before .before .before .before .before .before .before .before .before .before .pre .1 .0 in let l = rule-here s at g in omega arith
 
 judge-at-rule-past-requires : (t : ℕ) → judge-at-lts.Need-rule-past-requires (judge-at-calls t) (judge-at-at t) judge-at.Post
-judge-at-rule-past-requires t c κs = let s = c .before .before .before .before .before .before .before .before .before .before .before .args .rule .now in let at = c .before .before .before .before .before .before .before .before .before .before .before .args .at in let g = c .before .before .before .before .before .before .before .before .before .before .before .pre .1 .0 in let l = rule-here s at g in let q : kindOf (getD s at 0) ≡ OfRule (Two (c .before .before .kind3 .given .0 .0)) = cc in good-first s at g _ q
+judge-at-rule-past-requires t c κs = let s = c .before .before .before .before .before .before .before .before .before .before .before .args .rule .now in let at = c .before .before .before .before .before .before .before .before .before .before .before .args .at in let g = c .before .before .before .before .before .before .before .before .before .before .before .pre .1 .0 in let l = rule-here s at g in let q : kindOf (getD s at 0) ≡ OfRule (Two (c .before .before .kind3 .given .0 .0)) = sym (c .before .before .before .before .before .before .before .kind-of .ensures) ∙ c .before .before .before .before .before .kind .given .1 ∙ ap OfRule (c .before .before .kind3 .given .1) in good-first s at g _ q
 
 judge-at-judge-at-requires-2 : (t : ℕ) → judge-at-lts.Need-judge-at-requires-2 (judge-at-calls t) (judge-at-at t) judge-at.Post
-judge-at-judge-at-requires-2 t c κs = let s = c .before .before .before .before .before .before .before .before .before .before .before .before .args .rule .now in let at = c .before .before .before .before .before .before .before .before .before .before .before .before .args .at in let g = c .before .before .before .before .before .before .before .before .before .before .before .before .pre .1 .0 in let l = rule-here s at g in let q : kindOf (getD s at 0) ≡ OfRule (Two (c .before .before .before .kind3 .given .0 .0)) = cc in let h = good-second s at g _ q (c .rule-past .result) (c .rule-past .ensures) in (omega arith, (h .0, c .before .before .before .before .before .before .before .before .before .before .before .before .pre .1 .1))
+judge-at-judge-at-requires-2 t c κs = let s = c .before .before .before .before .before .before .before .before .before .before .before .before .args .rule .now in let at = c .before .before .before .before .before .before .before .before .before .before .before .before .args .at in let g = c .before .before .before .before .before .before .before .before .before .before .before .before .pre .1 .0 in let l = rule-here s at g in let q : kindOf (getD s at 0) ≡ OfRule (Two (c .before .before .before .kind3 .given .0 .0)) = sym (c .before .before .before .before .before .before .before .before .kind-of .ensures) ∙ c .before .before .before .before .before .before .kind .given .1 ∙ ap OfRule (c .before .before .before .kind3 .given .1) in let h = good-second s at g _ q (c .rule-past .result) (c .rule-past .ensures) in (omega arith, (h .0, c .before .before .before .before .before .before .before .before .before .before .before .before .pre .1 .1))
 
 judge-at-pair-parts-requires : (t : ℕ) → judge-at-lts.Need-pair-parts-requires (judge-at-calls t) (judge-at-at t) judge-at.Post
 judge-at-pair-parts-requires t c κs = search needs
 
 judge-at-returns-2 : (t : ℕ) → judge-at-lts.Need-returns-2 (judge-at-calls t) (judge-at-at t) judge-at.Post
-judge-at-returns-2 t c = let s = c .before .before .before .before .before .before .before .before .before .before .args .rule .now in let at = c .before .before .before .before .before .before .before .before .before .before .args .at in let g = c .before .before .before .before .before .before .before .before .before .before .pre .1 .0 in let l = rule-here s at g in let q : kindOf (getD s at 0) ≡ OfRule Letter = cc in at-letter s at (c .before .before .before .before .before .before .before .before .before .before .args .letters .now) (c .before .before .before .before .before .before .before .before .before .before .pre .1 .1) q (c .letter-parts .result) (c .letter-parts .ensures)
+judge-at-returns-2 t c = let s = c .before .before .before .before .before .before .before .before .before .before .args .rule .now in let at = c .before .before .before .before .before .before .before .before .before .before .args .at in let g = c .before .before .before .before .before .before .before .before .before .before .pre .1 .0 in let l = rule-here s at g in let q : kindOf (getD s at 0) ≡ OfRule Letter = sym (c .before .before .before .before .before .before .kind-of .ensures) ∙ c .before .before .before .before .kind .given .1 ∙ ap OfRule (c .before .enum-told .given .1) in at-letter s at (c .before .before .before .before .before .before .before .before .before .before .args .letters .now) (c .before .before .before .before .before .before .before .before .before .before .pre .1 .1) q (c .letter-parts .result) (c .letter-parts .ensures)
 
 judge-at-returns-3 : (t : ℕ) → judge-at-lts.Need-returns-3 (judge-at-calls t) (judge-at-at t) judge-at.Post
-judge-at-returns-3 t c = let s = c .before .before .before .before .before .before .before .before .before .before .args .rule .now in let at = c .before .before .before .before .before .before .before .before .before .before .args .at in let g = c .before .before .before .before .before .before .before .before .before .before .pre .1 .0 in let l = rule-here s at g in let q : kindOf (getD s at 0) ≡ OfRule Empty = cc in at-empty s at (c .before .before .before .before .before .before .before .before .before .before .args .letters .now) (c .before .before .before .before .before .before .before .before .before .before .pre .1 .1) q (c .empty-parts .result) (c .empty-parts .ensures)
+judge-at-returns-3 t c = let s = c .before .before .before .before .before .before .before .before .before .before .args .rule .now in let at = c .before .before .before .before .before .before .before .before .before .before .args .at in let g = c .before .before .before .before .before .before .before .before .before .before .pre .1 .0 in let l = rule-here s at g in let q : kindOf (getD s at 0) ≡ OfRule Empty = sym (c .before .before .before .before .before .before .kind-of .ensures) ∙ c .before .before .before .before .kind .given .1 ∙ ap OfRule (c .before .enum-told2 .given .1) in at-empty s at (c .before .before .before .before .before .before .before .before .before .before .args .letters .now) (c .before .before .before .before .before .before .before .before .before .before .pre .1 .1) q (c .empty-parts .result) (c .empty-parts .ensures)
 
 judge-at-returns-4 : (t : ℕ) → judge-at-lts.Need-returns-4 (judge-at-calls t) (judge-at-at t) judge-at.Post
-judge-at-returns-4 t c = let s = c .before .before .before .before .before .before .before .before .before .before .before .args .rule .now in let at = c .before .before .before .before .before .before .before .before .before .before .before .args .at in let g = c .before .before .before .before .before .before .before .before .before .before .before .pre .1 .0 in let l = rule-here s at g in let q : kindOf (getD s at 0) ≡ OfRule (Again (c .before .before .kind2 .given .0 .0)) = cc in at-again s at (c .before .before .before .before .before .before .before .before .before .before .before .args .letters .now) (c .before .before .before .before .before .before .before .before .before .before .before .pre .1 .1) _ q (c .judge-repeat .result) (c .judge-repeat .ensures)
+judge-at-returns-4 t c = let s = c .before .before .before .before .before .before .before .before .before .before .before .args .rule .now in let at = c .before .before .before .before .before .before .before .before .before .before .before .args .at in let g = c .before .before .before .before .before .before .before .before .before .before .before .pre .1 .0 in let l = rule-here s at g in let q : kindOf (getD s at 0) ≡ OfRule (Again (c .before .before .kind2 .given .0 .0)) = sym (c .before .before .before .before .before .before .before .kind-of .ensures) ∙ c .before .before .before .before .before .kind .given .1 ∙ ap OfRule (c .before .before .kind2 .given .1) in at-again s at (c .before .before .before .before .before .before .before .before .before .before .before .args .letters .now) (c .before .before .before .before .before .before .before .before .before .before .before .pre .1 .1) _ q (c .judge-repeat .result) (c .judge-repeat .ensures)
 
 judge-at-returns-5 : (t : ℕ) → judge-at-lts.Need-returns-5 (judge-at-calls t) (judge-at-at t) judge-at.Post
-judge-at-returns-5 t c = let s = c .before .before .before .before .before .before .before .before .before .before .before .before .before .before .before .before .args .rule .now in let at = c .before .before .before .before .before .before .before .before .before .before .before .before .before .before .before .before .args .at in let g = c .before .before .before .before .before .before .before .before .before .before .before .before .before .before .before .before .pre .1 .0 in let l = rule-here s at g in let q : kindOf (getD s at 0) ≡ OfRule (Two (c .before .before .before .before .before .before .before .kind3 .given .0 .0)) = cc in at-two s at (c .before .before .before .before .before .before .before .before .before .before .before .before .before .before .before .before .args .letters .now) (c .before .before .before .before .before .before .before .before .before .before .before .before .before .before .before .before .pre .1 .1) _ q (c .before .before .before .before .rule-past .result) (c .before .before .before .before .rule-past .ensures) (c .before .before .before .before .before .judge-at .result) (c .before .before .before .judge-at2 .result) (c .pair-parts .result) (c .before .before .before .before .before .judge-at .ensures) (c .before .before .before .judge-at2 .ensures) (c .pair-parts .ensures)
+judge-at-returns-5 t c = let s = c .before .before .before .before .before .before .before .before .before .before .before .before .before .before .before .before .args .rule .now in let at = c .before .before .before .before .before .before .before .before .before .before .before .before .before .before .before .before .args .at in let g = c .before .before .before .before .before .before .before .before .before .before .before .before .before .before .before .before .pre .1 .0 in let l = rule-here s at g in let q : kindOf (getD s at 0) ≡ OfRule (Two (c .before .before .before .before .before .before .before .kind3 .given .0 .0)) = sym (c .before .before .before .before .before .before .before .before .before .before .before .before .kind-of .ensures) ∙ c .before .before .before .before .before .before .before .before .before .before .kind .given .1 ∙ ap OfRule (c .before .before .before .before .before .before .before .kind3 .given .1) in at-two s at (c .before .before .before .before .before .before .before .before .before .before .before .before .before .before .before .before .args .letters .now) (c .before .before .before .before .before .before .before .before .before .before .before .before .before .before .before .before .pre .1 .1) _ q (c .before .before .before .before .rule-past .result) (c .before .before .before .before .rule-past .ensures) (c .before .before .before .before .before .judge-at .result) (c .before .before .before .judge-at2 .result) (c .pair-parts .result) (c .before .before .before .before .before .judge-at .ensures) (c .before .before .before .judge-at2 .ensures) (c .pair-parts .ensures)
 
 judge-repeat-judge-at-requires : (t : ℕ) → judge-repeat-lts.Need-judge-at-requires (judge-repeat-calls t) (judge-repeat-at t) judge-repeat.Post
 judge-repeat-judge-at-requires t c κs = (omega arith, (c .before .before .pre .1 .0, c .before .before .pre .1 .1))

@@ -1,8 +1,9 @@
 -- The proof of the cycle of calls {rule_end}. The measure is what is left of the slice from `at` on. Assumes nothing.
 use Prim.Native.Nat.{ℕ, _+_, _<_, _-_}
-use mathlib.Core.Path.{subst}
+use mathlib.Core.Path.{subst, sym, ap, _∙_}
 use native.Mathlib.Omega.{arith}
 use lib.ListN.{length}
+use Rattle.rules.specs.declared.kinds.Kind.the-variants.{OfRule}
 use borrow.Author.Needs.{needs}
 use Rattle.rules.specs.Reading.{rule}
 use Rattle.rules.specs.Walks.{RuleRead}
@@ -89,25 +90,25 @@ rule-end-rule-end-requires-3 : (t : ℕ) → rule-end-lts.Need-rule-end-requires
 rule-end-rule-end-requires-3 t c κs = let s = c .before .before .before .before .before .before .before .before .before .before .before .before .before .args .rule .now in let at = c .before .before .before .before .before .before .before .before .before .before .before .before .before .args .at in let fr = subst (RuleRead s (at + 1)) (c .before .m .given .1) (c .before .before .before .rule-end2 .ensures) in let i = rule-ends s (fr .1) in (omega arith, tt)
 
 rule-end-returns-2 : (t : ℕ) → rule-end-lts.Need-returns-2 (kind-of-reads.Asked, kind-of-reads.Learnt, formula-end-reads.Asked, formula-end-reads.Learnt, rule-end-below t, rule-end.Post) (rule-end-at t) rule-end.Post
-rule-end-returns-2 t c = r-unknown _ _ (record { inside = omega arith; says = cc })
+rule-end-returns-2 t c = r-unknown _ _ (record { inside = omega arith; says = sym (c .before .before .kind-of .ensures) ∙ c .enum-told .given .1 })
 
 rule-end-returns-3 : (t : ℕ) → rule-end-lts.Need-returns-3 (kind-of-reads.Asked, kind-of-reads.Learnt, formula-end-reads.Asked, formula-end-reads.Learnt, rule-end-below t, rule-end.Post) (rule-end-at t) rule-end.Post
-rule-end-returns-3 t c = r-wrong _ _ (c .enum-told2 .given .0 .0) (record { inside = omega arith; says = cc })
+rule-end-returns-3 t c = r-wrong _ _ (c .enum-told2 .given .0 .0) (record { inside = omega arith; says = sym (c .before .before .kind-of .ensures) ∙ c .enum-told2 .given .1 })
 
 rule-end-returns-4 : (t : ℕ) → rule-end-lts.Need-returns-4 (kind-of-reads.Asked, kind-of-reads.Learnt, formula-end-reads.Asked, formula-end-reads.Learnt, rule-end-below t, rule-end.Post) (rule-end-at t) rule-end.Post
-rule-end-returns-4 t c = let s = c .before .before .before .before .before .before .before .before .before .before .args .rule .now in let at = c .before .before .before .before .before .before .before .before .before .before .args .at in r-letter s at (record { inside = omega arith; says = cc }) (c .formula-end .result) (c .formula-end .ensures)
+rule-end-returns-4 t c = let s = c .before .before .before .before .before .before .before .before .before .before .args .rule .now in let at = c .before .before .before .before .before .before .before .before .before .before .args .at in r-letter s at (record { inside = omega arith; says = sym (c .before .before .before .before .before .before .kind-of .ensures) ∙ c .before .before .before .before .k .given .1 ∙ ap OfRule (c .before .enum-told3 .given .1) }) (c .formula-end .result) (c .formula-end .ensures)
 
 rule-end-returns-5 : (t : ℕ) → rule-end-lts.Need-returns-5 (kind-of-reads.Asked, kind-of-reads.Learnt, formula-end-reads.Asked, formula-end-reads.Learnt, rule-end-below t, rule-end.Post) (rule-end-at t) rule-end.Post
-rule-end-returns-5 t c = r-empty _ _ (record { inside = omega arith; says = cc })
+rule-end-returns-5 t c = r-empty _ _ (record { inside = omega arith; says = sym (c .before .before .before .before .before .kind-of .ensures) ∙ c .before .before .before .k .given .1 ∙ ap OfRule (c .enum-told4 .given .1) })
 
 rule-end-returns-6 : (t : ℕ) → rule-end-lts.Need-returns-6 (kind-of-reads.Asked, kind-of-reads.Learnt, formula-end-reads.Asked, formula-end-reads.Learnt, rule-end-below t, rule-end.Post) (rule-end-at t) rule-end.Post
-rule-end-returns-6 t c = let s = c .before .before .before .before .before .before .before .before .before .before .args .rule .now in let at = c .before .before .before .before .before .before .before .before .before .before .args .at in r-again s at (c .before .enum-told5 .given .0 .0) (record { inside = omega arith; says = cc }) (c .rule-end .result) (c .rule-end .ensures)
+rule-end-returns-6 t c = let s = c .before .before .before .before .before .before .before .before .before .before .args .rule .now in let at = c .before .before .before .before .before .before .before .before .before .before .args .at in r-again s at (c .before .enum-told5 .given .0 .0) (record { inside = omega arith; says = sym (c .before .before .before .before .before .before .kind-of .ensures) ∙ c .before .before .before .before .k .given .1 ∙ ap OfRule (c .before .enum-told5 .given .1) }) (c .rule-end .result) (c .rule-end .ensures)
 
 rule-end-returns-7 : (t : ℕ) → rule-end-lts.Need-returns-7 (kind-of-reads.Asked, kind-of-reads.Learnt, formula-end-reads.Asked, formula-end-reads.Learnt, rule-end-below t, rule-end.Post) (rule-end-at t) rule-end.Post
-rule-end-returns-7 t c = let s = c .before .before .before .before .before .before .before .before .before .before .before .before .before .args .rule .now in let at = c .before .before .before .before .before .before .before .before .before .before .before .before .before .args .at in r-two-bad s at (c .before .before .before .before .enum-told6 .given .0 .0) (record { inside = omega arith; says = cc }) (c .before .x .given .0 .0) (subst (RuleRead s (at + 1)) (c .before .x .given .1) (c .before .before .before .rule-end2 .ensures))
+rule-end-returns-7 t c = let s = c .before .before .before .before .before .before .before .before .before .before .before .before .before .args .rule .now in let at = c .before .before .before .before .before .before .before .before .before .before .before .before .before .args .at in r-two-bad s at (c .before .before .before .before .enum-told6 .given .0 .0) (record { inside = omega arith; says = sym (c .before .before .before .before .before .before .before .before .before .kind-of .ensures) ∙ c .before .before .before .before .before .before .before .k .given .1 ∙ ap OfRule (c .before .before .before .before .enum-told6 .given .1) }) (c .before .x .given .0 .0) (subst (RuleRead s (at + 1)) (c .before .x .given .1) (c .before .before .before .rule-end2 .ensures))
 
 rule-end-returns-8 : (t : ℕ) → rule-end-lts.Need-returns-8 (kind-of-reads.Asked, kind-of-reads.Learnt, formula-end-reads.Asked, formula-end-reads.Learnt, rule-end-below t, rule-end.Post) (rule-end-at t) rule-end.Post
-rule-end-returns-8 t c = let s = c .before .before .before .before .before .before .before .before .before .before .before .before .before .before .args .rule .now in let at = c .before .before .before .before .before .before .before .before .before .before .before .before .before .before .args .at in r-two s at (c .before .before .before .before .before .enum-told6 .given .0 .0) (record { inside = omega arith; says = cc }) (c .before .before .m .given .0 .0) (subst (RuleRead s (at + 1)) (c .before .before .m .given .1) (c .before .before .before .before .rule-end2 .ensures)) (c .rule-end3 .result) (c .rule-end3 .ensures)
+rule-end-returns-8 t c = let s = c .before .before .before .before .before .before .before .before .before .before .before .before .before .before .args .rule .now in let at = c .before .before .before .before .before .before .before .before .before .before .before .before .before .before .args .at in r-two s at (c .before .before .before .before .before .enum-told6 .given .0 .0) (record { inside = omega arith; says = sym (c .before .before .before .before .before .before .before .before .before .before .kind-of .ensures) ∙ c .before .before .before .before .before .before .before .before .k .given .1 ∙ ap OfRule (c .before .before .before .before .before .enum-told6 .given .1) }) (c .before .before .m .given .0 .0) (subst (RuleRead s (at + 1)) (c .before .before .m .given .1) (c .before .before .before .before .rule-end2 .ensures)) (c .rule-end3 .result) (c .rule-end3 .ensures)
 
 pub +rule-end-spec : {M : Type 1} → statement M
 +rule-end-spec = close μ-rule-end λ t. rule-end-lts.spec (kind-of-reads.Asked, kind-of-reads.Learnt, formula-end-reads.Asked, formula-end-reads.Learnt, rule-end-below t, rule-end.Post)

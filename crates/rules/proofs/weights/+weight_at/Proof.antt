@@ -1,6 +1,6 @@
 -- The proof of the cycle of calls {weight_at}. The measure is what is left of the slice from `at` on. Assumes nothing.
 use Prim.Native.Nat.{ℕ, _+_, _<_, _-_}
-use mathlib.Core.Path.{_≡_}
+use mathlib.Core.Path.{_≡_, sym, ap, _∙_}
 use native.Mathlib.Omega.{arith}
 use lib.ListN.{length, getD}
 use borrow.Author.Needs.{needs}
@@ -55,7 +55,7 @@ weight-at-add-formula-past : (t : ℕ) → weight-at-lts.Need-add-formula-past (
 weight-at-add-formula-past t c = let s = c .before .before .before .before .before .before .before .before .args .rule .now in let at = c .before .before .before .before .before .before .before .before .args .at in let g = c .before .before .before .before .before .before .before .before .pre .1 in let l = rule-here s at g in omega arith
 
 weight-at-formula-past-requires : (t : ℕ) → weight-at-lts.Need-formula-past-requires (calls t) (weight-at-at t) weight-at.Post
-weight-at-formula-past-requires t c κs = let s = c .before .before .before .before .before .before .before .before .args .rule .now in let at = c .before .before .before .before .before .before .before .before .args .at in let g = c .before .before .before .before .before .before .before .before .pre .1 in let l = rule-here s at g in let q : kindOf (getD s at 0) ≡ OfRule Letter = cc in good-letter s at g q
+weight-at-formula-past-requires t c κs = let s = c .before .before .before .before .before .before .before .before .args .rule .now in let at = c .before .before .before .before .before .before .before .before .args .at in let g = c .before .before .before .before .before .before .before .before .pre .1 in let l = rule-here s at g in let q : kindOf (getD s at 0) ≡ OfRule Letter = sym (c .before .before .before .before .before .kind-of .ensures) ∙ c .before .before .before .k .given .1 ∙ ap OfRule (c .enum-told3 .given .1) in good-letter s at g q
 
 weight-at-enum-told-4 : (t : ℕ) → weight-at-lts.Need-enum-told-4 (calls t) (weight-at-at t) weight-at.Post
 weight-at-enum-told-4 t c = search needs
@@ -70,7 +70,7 @@ weight-at-add-weight-at : (t : ℕ) → weight-at-lts.Need-add-weight-at (calls 
 weight-at-add-weight-at t c = let s = c .before .before .before .before .before .before .before .before .args .rule .now in let at = c .before .before .before .before .before .before .before .before .args .at in let g = c .before .before .before .before .before .before .before .before .pre .1 in let l = rule-here s at g in omega arith
 
 weight-at-weight-at-requires : (t : ℕ) → weight-at-lts.Need-weight-at-requires (calls t) (weight-at-at t) weight-at.Post
-weight-at-weight-at-requires t c κs = let s = c .before .before .before .before .before .before .before .before .args .rule .now in let at = c .before .before .before .before .before .before .before .before .args .at in let g = c .before .before .before .before .before .before .before .before .pre .1 in let l = rule-here s at g in let q : kindOf (getD s at 0) ≡ OfRule (Again (c .enum-told5 .given .0 .0)) = cc in (omega arith, good-again s at g _ q)
+weight-at-weight-at-requires t c κs = let s = c .before .before .before .before .before .before .before .before .args .rule .now in let at = c .before .before .before .before .before .before .before .before .args .at in let g = c .before .before .before .before .before .before .before .before .pre .1 in let l = rule-here s at g in let q : kindOf (getD s at 0) ≡ OfRule (Again (c .enum-told5 .given .0 .0)) = sym (c .before .before .before .before .before .kind-of .ensures) ∙ c .before .before .before .k .given .1 ∙ ap OfRule (c .enum-told5 .given .1) in (omega arith, good-again s at g _ q)
 
 weight-at-enum-known-k-2 : (t : ℕ) → weight-at-lts.Need-enum-known-k-2 (calls t) (weight-at-at t) weight-at.Post
 weight-at-enum-known-k-2 t c = search needs
@@ -79,31 +79,31 @@ weight-at-add-weight-at-2 : (t : ℕ) → weight-at-lts.Need-add-weight-at-2 (ca
 weight-at-add-weight-at-2 t c = let s = c .before .before .before .before .before .before .before .before .before .args .rule .now in let at = c .before .before .before .before .before .before .before .before .before .args .at in let g = c .before .before .before .before .before .before .before .before .before .pre .1 in let l = rule-here s at g in omega arith
 
 weight-at-weight-at-requires-2 : (t : ℕ) → weight-at-lts.Need-weight-at-requires-2 (calls t) (weight-at-at t) weight-at.Post
-weight-at-weight-at-requires-2 t c κs = let s = c .before .before .before .before .before .before .before .before .before .args .rule .now in let at = c .before .before .before .before .before .before .before .before .before .args .at in let g = c .before .before .before .before .before .before .before .before .before .pre .1 in let l = rule-here s at g in let q : kindOf (getD s at 0) ≡ OfRule (Two (c .before .k2 .given .0 .0)) = cc in (omega arith, good-first s at g _ q)
+weight-at-weight-at-requires-2 t c κs = let s = c .before .before .before .before .before .before .before .before .before .args .rule .now in let at = c .before .before .before .before .before .before .before .before .before .args .at in let g = c .before .before .before .before .before .before .before .before .before .pre .1 in let l = rule-here s at g in let q : kindOf (getD s at 0) ≡ OfRule (Two (c .before .k2 .given .0 .0)) = sym (c .before .before .before .before .before .before .kind-of .ensures) ∙ c .before .before .before .before .k .given .1 ∙ ap OfRule (c .before .k2 .given .1) in (omega arith, good-first s at g _ q)
 
 weight-at-weight-at-requires-3 : (t : ℕ) → weight-at-lts.Need-weight-at-requires-3 (calls t) (weight-at-at t) weight-at.Post
-weight-at-weight-at-requires-3 t c κs = let s = c .before .before .before .before .before .before .before .before .before .before .args .rule .now in let at = c .before .before .before .before .before .before .before .before .before .before .args .at in let g = c .before .before .before .before .before .before .before .before .before .before .pre .1 in let l = rule-here s at g in let q : kindOf (getD s at 0) ≡ OfRule (Two (c .before .before .k2 .given .0 .0)) = cc in let h = good-second s at g _ q (c .weight-at2 .result .end) (λ a e d. c .weight-at2 .ensures a e d .1) in (omega arith, h .0)
+weight-at-weight-at-requires-3 t c κs = let s = c .before .before .before .before .before .before .before .before .before .before .args .rule .now in let at = c .before .before .before .before .before .before .before .before .before .before .args .at in let g = c .before .before .before .before .before .before .before .before .before .before .pre .1 in let l = rule-here s at g in let q : kindOf (getD s at 0) ≡ OfRule (Two (c .before .before .k2 .given .0 .0)) = sym (c .before .before .before .before .before .before .before .kind-of .ensures) ∙ c .before .before .before .before .before .k .given .1 ∙ ap OfRule (c .before .before .k2 .given .1) in let h = good-second s at g _ q (c .weight-at2 .result .end) (λ a e d. c .weight-at2 .ensures a e d .1) in (omega arith, h .0)
 
 weight-at-weight-of-pair-requires : (t : ℕ) → weight-at-lts.Need-weight-of-pair-requires (calls t) (weight-at-at t) weight-at.Post
-weight-at-weight-of-pair-requires t c κs = let s = c .before .before .before .before .before .before .before .before .before .before .before .args .rule .now in let at = c .before .before .before .before .before .before .before .before .before .before .before .args .at in let g = c .before .before .before .before .before .before .before .before .before .before .before .pre .1 in let l = rule-here s at g in let q : kindOf (getD s at 0) ≡ OfRule (Two (c .before .before .before .k2 .given .0 .0)) = cc in let a = good-first s at g _ q in let b = good-second s at g _ q (c .before .weight-at2 .result .end) (λ a e d. c .before .weight-at2 .ensures a e d .1) in (capped-small _ _ (c .before .weight-at2 .ensures (a .0) (a .1) (a .2) .0), capped-small _ _ (c .weight-at3 .ensures (b .0 .0) (b .0 .1) (b .0 .2) .0))
+weight-at-weight-of-pair-requires t c κs = let s = c .before .before .before .before .before .before .before .before .before .before .before .args .rule .now in let at = c .before .before .before .before .before .before .before .before .before .before .before .args .at in let g = c .before .before .before .before .before .before .before .before .before .before .before .pre .1 in let l = rule-here s at g in let q : kindOf (getD s at 0) ≡ OfRule (Two (c .before .before .before .k2 .given .0 .0)) = sym (c .before .before .before .before .before .before .before .before .kind-of .ensures) ∙ c .before .before .before .before .before .before .k .given .1 ∙ ap OfRule (c .before .before .before .k2 .given .1) in let a = good-first s at g _ q in let b = good-second s at g _ q (c .before .weight-at2 .result .end) (λ a e d. c .before .weight-at2 .ensures a e d .1) in (capped-small _ _ (c .before .weight-at2 .ensures (a .0) (a .1) (a .2) .0), capped-small _ _ (c .weight-at3 .ensures (b .0 .0) (b .0 .1) (b .0 .2) .0))
 
 weight-at-returns : (t : ℕ) → weight-at-lts.Need-returns (calls t) (weight-at-at t) weight-at.Post
-weight-at-returns t c = let s = c .before .before .before .before .before .args .rule .now in let at = c .before .before .before .before .before .args .at in let g = c .before .before .before .before .before .pre .1 in let l = rule-here s at g in let q : kindOf (getD s at 0) ≡ Unknown = cc in absurd (not-unknown s at g q)
+weight-at-returns t c = let s = c .before .before .before .before .before .args .rule .now in let at = c .before .before .before .before .before .args .at in let g = c .before .before .before .before .before .pre .1 in let l = rule-here s at g in let q : kindOf (getD s at 0) ≡ Unknown = sym (c .before .before .kind-of .ensures) ∙ c .enum-told .given .1 in absurd (not-unknown s at g q)
 
 weight-at-returns-2 : (t : ℕ) → weight-at-lts.Need-returns-2 (calls t) (weight-at-at t) weight-at.Post
-weight-at-returns-2 t c = let s = c .before .before .before .before .before .args .rule .now in let at = c .before .before .before .before .before .args .at in let g = c .before .before .before .before .before .pre .1 in let l = rule-here s at g in let q : kindOf (getD s at 0) ≡ OfFormula (c .enum-told2 .given .0 .0) = cc in absurd (not-formula s at g _ q)
+weight-at-returns-2 t c = let s = c .before .before .before .before .before .args .rule .now in let at = c .before .before .before .before .before .args .at in let g = c .before .before .before .before .before .pre .1 in let l = rule-here s at g in let q : kindOf (getD s at 0) ≡ OfFormula (c .enum-told2 .given .0 .0) = sym (c .before .before .kind-of .ensures) ∙ c .enum-told2 .given .1 in absurd (not-formula s at g _ q)
 
 weight-at-returns-3 : (t : ℕ) → weight-at-lts.Need-returns-3 (calls t) (weight-at-at t) weight-at.Post
-weight-at-returns-3 t c = let s = c .before .before .before .before .before .before .before .before .before .args .rule .now in let at = c .before .before .before .before .before .before .before .before .before .args .at in let g = c .before .before .before .before .before .before .before .before .before .pre .1 in let l = rule-here s at g in let q : kindOf (getD s at 0) ≡ OfRule Letter = cc in w-letter s at q (c .formula-past .result) (c .formula-past .ensures)
+weight-at-returns-3 t c = let s = c .before .before .before .before .before .before .before .before .before .args .rule .now in let at = c .before .before .before .before .before .before .before .before .before .args .at in let g = c .before .before .before .before .before .before .before .before .before .pre .1 in let l = rule-here s at g in let q : kindOf (getD s at 0) ≡ OfRule Letter = sym (c .before .before .before .before .before .before .kind-of .ensures) ∙ c .before .before .before .before .k .given .1 ∙ ap OfRule (c .before .enum-told3 .given .1) in w-letter s at q (c .formula-past .result) (c .formula-past .ensures)
 
 weight-at-returns-4 : (t : ℕ) → weight-at-lts.Need-returns-4 (calls t) (weight-at-at t) weight-at.Post
-weight-at-returns-4 t c = let s = c .before .before .before .before .before .before .before .before .args .rule .now in let at = c .before .before .before .before .before .before .before .before .args .at in let g = c .before .before .before .before .before .before .before .before .pre .1 in let l = rule-here s at g in let q : kindOf (getD s at 0) ≡ OfRule Empty = cc in w-empty s at q
+weight-at-returns-4 t c = let s = c .before .before .before .before .before .before .before .before .args .rule .now in let at = c .before .before .before .before .before .before .before .before .args .at in let g = c .before .before .before .before .before .before .before .before .pre .1 in let l = rule-here s at g in let q : kindOf (getD s at 0) ≡ OfRule Empty = sym (c .before .before .before .before .before .kind-of .ensures) ∙ c .before .before .before .k .given .1 ∙ ap OfRule (c .enum-told4 .given .1) in w-empty s at q
 
 weight-at-returns-5 : (t : ℕ) → weight-at-lts.Need-returns-5 (calls t) (weight-at-at t) weight-at.Post
-weight-at-returns-5 t c = let s = c .before .before .before .before .before .before .before .before .before .args .rule .now in let at = c .before .before .before .before .before .before .before .before .before .args .at in let g = c .before .before .before .before .before .before .before .before .before .pre .1 in let l = rule-here s at g in let q : kindOf (getD s at 0) ≡ OfRule (Again (c .before .enum-told5 .given .0 .0)) = cc in w-again s at _ q (c .weight-at .result) (c .weight-at .ensures)
+weight-at-returns-5 t c = let s = c .before .before .before .before .before .before .before .before .before .args .rule .now in let at = c .before .before .before .before .before .before .before .before .before .args .at in let g = c .before .before .before .before .before .before .before .before .before .pre .1 in let l = rule-here s at g in let q : kindOf (getD s at 0) ≡ OfRule (Again (c .before .enum-told5 .given .0 .0)) = sym (c .before .before .before .before .before .before .kind-of .ensures) ∙ c .before .before .before .before .k .given .1 ∙ ap OfRule (c .before .enum-told5 .given .1) in w-again s at _ q (c .weight-at .result) (c .weight-at .ensures)
 
 weight-at-returns-6 : (t : ℕ) → weight-at-lts.Need-returns-6 (calls t) (weight-at-at t) weight-at.Post
-weight-at-returns-6 t c = let s = c .before .before .before .before .before .before .before .before .before .before .before .before .args .rule .now in let at = c .before .before .before .before .before .before .before .before .before .before .before .before .args .at in let g = c .before .before .before .before .before .before .before .before .before .before .before .before .pre .1 in let l = rule-here s at g in let q : kindOf (getD s at 0) ≡ OfRule (Two (c .before .before .before .before .k2 .given .0 .0)) = cc in w-two s at _ q (c .before .before .weight-at2 .result) (c .before .weight-at3 .result) (c .before .before .weight-at2 .ensures) (c .before .weight-at3 .ensures) (c .weight-of-pair .result) (c .weight-of-pair .ensures)
+weight-at-returns-6 t c = let s = c .before .before .before .before .before .before .before .before .before .before .before .before .args .rule .now in let at = c .before .before .before .before .before .before .before .before .before .before .before .before .args .at in let g = c .before .before .before .before .before .before .before .before .before .before .before .before .pre .1 in let l = rule-here s at g in let q : kindOf (getD s at 0) ≡ OfRule (Two (c .before .before .before .before .k2 .given .0 .0)) = sym (c .before .before .before .before .before .before .before .before .before .kind-of .ensures) ∙ c .before .before .before .before .before .before .before .k .given .1 ∙ ap OfRule (c .before .before .before .before .k2 .given .1) in w-two s at _ q (c .before .before .weight-at2 .result) (c .before .weight-at3 .result) (c .before .before .weight-at2 .ensures) (c .before .weight-at3 .ensures) (c .weight-of-pair .result) (c .weight-of-pair .ensures)
 
 pub +weight-at-spec : {M : Type 1} → statement M
 +weight-at-spec = close μ-weight-at λ t. weight-at-lts.spec (calls t)

@@ -5,6 +5,8 @@ use mathlib.Core.Path.{_≡_, refl, _∙_}
 use native.Mathlib.Omega.{arith}
 use lib.ListN.{length, getD}
 use Rattle.tables.specs.Table.{tableOf}
+use Rattle.tables.specs.Beyond.{Beyond}
+use Rattle.tables.proofs.Beyonds.{beyond-none, beyond-then}
 use Rattle.models.specs.Stored.{modelWith}
 use Rattle.search.proofs.Given.{given}
 use Rattle.search.proofs.Backing.{Backing, seed-backing, settle-down, useful-end}
@@ -13,7 +15,7 @@ use Rattle.search.proofs.backward.backward.Statement.{statement}
 use Rattle.search.proofs.backward.backward.Tie as tie
 
 abbrev Inv-loop : tie.InvT-loop
-Inv-loop table letters successors marks useful₀ sizes level at₀ useful at = (1 ≤ at) × (at ≤ level) × (length useful ≡ length useful₀) × ((i : ℕ) → 4096 ≤ i → getD useful i 0 ≡ getD useful₀ i 0) × Backing (modelWith (sizes .states) letters (sizes .initial) successors) (tableOf table (sizes .weight) (sizes .finals)) level marks useful at
+Inv-loop table letters successors marks useful₀ sizes level at₀ useful at = (1 ≤ at) × (at ≤ level) × Beyond 4096 useful₀ useful × Backing (modelWith (sizes .states) letters (sizes .initial) successors) (tableOf table (sizes .weight) (sizes .finals)) level marks useful at
 
 abbrev μ-loop : tie.MeasureT-loop
 μ-loop table letters successors marks useful₀ sizes level at₀ useful at = at
@@ -25,13 +27,13 @@ loop-holds : tie.Need-loop-holds Inv-loop μ-loop
 loop-holds c = let z = c .before .before .before .before .before .before .before .before .before in
     let a = z .args in
     let e = c .before .before .seed .ensures in
-    (z .pre .7 .1 .some, omega arith, refl, λ i h. refl, seed-backing (given (a .sizes) (a .table .now) (a .letters .now) (a .successors .now) (z .pre .0) (z .pre .1)) (a .level) (z .pre .7 .0) (a .marks .now) (z .pre .7 .1) _ _ (e .0) (z .pre .6) (e .1))
+    (z .pre .7 .1 .some, omega arith, beyond-none 4096 _, seed-backing (given (a .sizes) (a .table .now) (a .letters .now) (a .successors .now) (z .pre .0) (z .pre .1)) (a .level) (z .pre .7 .0) (a .marks .now) (z .pre .7 .1) _ _ (e .0) (z .pre .6) (e .1))
 
 sub-at : tie.Need-sub-at Inv-loop μ-loop
 sub-at c = search needs
 
 settle-requires : tie.Need-settle-requires Inv-loop μ-loop
-settle-requires c κs = let z = c .before .before .before .before .before .before .before .before .before .before .before .before in let l = c .before .before .loop .inv in (z .pre .0, z .pre .1, z .pre .2, z .pre .3, omega (arith, l .2, c .before .before .before .before .before .seed .ensures .1 .size, z .pre .4), omega (arith, l .1, z .pre .5))
+settle-requires c κs = let z = c .before .before .before .before .before .before .before .before .before .before .before .before in let l = c .before .before .loop .inv in (z .pre .0, z .pre .1, z .pre .2, z .pre .3, omega (arith, l .2 .size, c .before .before .before .before .before .seed .ensures .1 .beyond .size, z .pre .4), omega (arith, l .1, z .pre .5))
 
 loop-less : tie.Need-loop-less Inv-loop μ-loop
 loop-less c = search needs
@@ -41,15 +43,15 @@ loop-again c = let z = c .before .before .before .before .before .before .before
     let a = z .args in
     let l = c .before .before .before .before .before .loop in
     let e = c .before .before .settle .ensures in
-    (omega arith, omega arith, e .1 .size ∙ l .inv .2, λ i h. e .1 .past i h ∙ l .inv .3 i h, settle-down (given (a .sizes) (a .table .now) (a .letters .now) (a .successors .now) (z .pre .0) (z .pre .1)) (a .level) (z .pre .7 .0) (a .marks .now) (z .pre .7 .1) _ _ (e .0) (l .at) (c .before .before .before .before .loop-test .taken) (l .inv .1) (l .inv .4) (e .1))
+    (omega arith, omega arith, beyond-then (l .inv .2) (e .1 .beyond), settle-down (given (a .sizes) (a .table .now) (a .letters .now) (a .successors .now) (z .pre .0) (z .pre .1)) (a .level) (z .pre .7 .0) (a .marks .now) (z .pre .7 .1) _ _ (e .0) (l .at) (c .before .before .before .before .loop-test .taken) (l .inv .1) (l .inv .3) (e .1))
 
 same-length : tie.Need-same-length Inv-loop μ-loop
-same-length c = c .before .loop .inv .2 ∙ c .before .before .before .before .seed .ensures .1 .size
+same-length c = c .before .loop .inv .2 .size ∙ c .before .before .before .before .seed .ensures .1 .beyond .size
 
 returns : tie.Need-returns Inv-loop μ-loop
 returns c = let l = c .before .loop in
     let e = c .before .before .before .before .seed .ensures in
-    (record { size = l .inv .2 ∙ e .1 .size; rest = λ i h. l .inv .3 i h ∙ e .1 .past i h }, useful-end (omega arith) (l .inv .4))
+    (beyond-then (e .1 .beyond) (l .inv .2), useful-end (omega arith) (l .inv .3))
 
 pub backward-spec : {M : Type 1} → statement M
 backward-spec =

@@ -5,9 +5,10 @@ use mathlib.Core.Path.{refl}
 use native.Mathlib.Omega.{arith}
 use Rattle.tables.specs.Table.{tableOf}
 use Rattle.models.specs.Stored.{modelWith}
-use Rattle.search.specs.Lent.{Beyond}
+use Rattle.tables.specs.Beyond.{Beyond}
+use Rattle.tables.proofs.Beyonds.{beyond-none, beyond-next}
 use Rattle.search.proofs.Given.{given}
-use Rattle.search.proofs.Picking.{Written, write-start, write-end, mask-some, state-below, write-turn, beyond-none, beyond-next}
+use Rattle.search.proofs.Picking.{Written, write-start, write-end, mask-some, state-below, write-turn}
 use borrow.Author.Needs.{needs}
 use Rattle.search.proofs.choose.pick.Statement.{statement}
 use Rattle.search.proofs.choose.pick.Tie as tie

@@ -5,6 +5,8 @@ use mathlib.Core.Path.{_≡_, refl, _∙_}
 use native.Mathlib.Omega.{arith}
 use lib.ListN.{length, getD}
 use Rattle.tables.specs.Table.{tableOf}
+use Rattle.tables.specs.Beyond.{Beyond}
+use Rattle.tables.proofs.Beyonds.{beyond-none, beyond-then}
 use Rattle.models.specs.Stored.{modelWith}
 use Rattle.search.proofs.Given.{given}
 use Rattle.search.proofs.Pushing.{first-step}
@@ -13,7 +15,7 @@ use Rattle.search.proofs.forward.forward.Statement.{statement}
 use Rattle.search.proofs.forward.forward.Tie as tie
 
 abbrev Inv-loop : tie.InvT-loop
-Inv-loop table letters successors marks₀ sizes level₀ fresh₀ count₀ marks level fresh count = (length marks ≡ length marks₀) × ((i : ℕ) → 4096 ≤ i → getD marks i 0 ≡ getD marks₀ i 0) × Going (modelWith (sizes .states) letters (sizes .initial) successors) (tableOf table (sizes .weight) (sizes .finals)) fresh level count marks
+Inv-loop table letters successors marks₀ sizes level₀ fresh₀ count₀ marks level fresh count = Beyond 4096 marks₀ marks × Going (modelWith (sizes .states) letters (sizes .initial) successors) (tableOf table (sizes .weight) (sizes .finals)) fresh level count marks
 
 abbrev μ-loop : tie.MeasureT-loop
 μ-loop table letters successors marks₀ sizes level₀ fresh₀ count₀ marks level fresh count = min fresh 1 + (4096 - count)
@@ -25,36 +27,36 @@ loop-holds : tie.Need-loop-holds Inv-loop μ-loop
 loop-holds c = let z = c .before .before .before .before .before .before .before .before in
     let a = z .args in
     let e = c .before .before .push-all .ensures in
-    (refl, λ i h. refl, go-start (given (a .sizes) (a .table .now) (a .letters .now) (a .successors .now) (z .pre .0) (z .pre .1)) _ _ _ (z .pre .4) (first-step (tableOf (z .args .table .now) (z .args .sizes .weight) 0) (a .letters .now) (a .sizes .initial) (a .sizes .states) (e .1)))
+    (beyond-none 4096 _, go-start (given (a .sizes) (a .table .now) (a .letters .now) (a .successors .now) (z .pre .0) (z .pre .1)) _ _ _ (z .pre .4) (first-step (tableOf (z .args .table .now) (z .args .sizes .weight) 0) (a .letters .now) (a .sizes .initial) (a .sizes .states) (e .1)))
 
 final-all-requires : tie.Need-final-all-requires Inv-loop μ-loop
-final-all-requires c κs = let z = c .before .before .before .before .before .before .before .before .before .before .before in (omega (arith, c .before .before .loop .inv .0, c .before .before .before .before .before .push-all .ensures .1 .size, z .pre .3), z .pre .0 .small, z .pre .1 .few)
+final-all-requires c κs = let z = c .before .before .before .before .before .before .before .before .before .before .before in (omega (arith, c .before .before .loop .inv .0 .size, c .before .before .before .before .before .push-all .ensures .1 .beyond .size, z .pre .3), z .pre .0 .small, z .pre .1 .few)
 
 same-length : tie.Need-same-length Inv-loop μ-loop
-same-length c = c .before .before .before .before .loop .inv .0 ∙ c .before .before .before .before .before .before .before .push-all .ensures .1 .size
+same-length c = c .before .before .before .before .loop .inv .0 .size ∙ c .before .before .before .before .before .before .before .push-all .ensures .1 .beyond .size
 
 returns : tie.Need-returns Inv-loop μ-loop
 returns c = let z = c .before .before .before .before .before .before .before .before .before .before .before .before .before in
     let a = z .args in
     let l = c .before .before .before .before .loop in
     let e = c .before .before .before .before .before .before .before .push-all .ensures in
-    (record { size = l .inv .0 ∙ e .1 .size; rest = λ i h. l .inv .1 i h ∙ e .1 .past i h }, go-found (given (a .sizes) (a .table .now) (a .letters .now) (a .successors .now) (z .pre .0) (z .pre .1)) _ _ _ _ (l .inv .2) (c .before .before .before .loop-test .taken) (c .before .final-all .ensures .yes-holds (c .if1 .taken)))
+    (beyond-then (e .1 .beyond) (l .inv .0), go-found (given (a .sizes) (a .table .now) (a .letters .now) (a .successors .now) (z .pre .0) (z .pre .1)) _ _ _ _ (l .inv .1) (c .before .before .before .loop-test .taken) (c .before .final-all .ensures .yes-holds (c .if1 .taken)))
 
 round-requires : tie.Need-round-requires Inv-loop μ-loop
 round-requires c κs = let z = c .before .before .before .before .before .before .before .before .before .before .before .before .before .before in
     let l = c .before .before .before .before .before .loop .inv in
     let e = c .before .before .before .before .before .before .before .before .push-all .ensures in
-    (z .pre .0, z .pre .1, z .pre .2, omega (arith, l .0, e .1 .size, z .pre .3), l .2 .marked .some, omega (arith, l .2 .spread (c .before .before .before .before .loop-test .taken), l .2 .marked .few))
+    (z .pre .0, z .pre .1, z .pre .2, omega (arith, l .0 .size, e .1 .beyond .size, z .pre .3), l .1 .marked .some, omega (arith, l .1 .spread (c .before .before .before .before .loop-test .taken), l .1 .marked .few))
 
 add-level : tie.Need-add-level Inv-loop μ-loop
-add-level c = let l = c .before .before .before .before .before .before .before .before .loop .inv .2 in omega (arith, l .spread (c .before .before .before .before .before .before .before .loop-test .taken), l .marked .few)
+add-level c = let l = c .before .before .before .before .before .before .before .before .loop .inv .1 in omega (arith, l .spread (c .before .before .before .before .before .before .before .loop-test .taken), l .marked .few)
 
 add-count : tie.Need-add-count Inv-loop μ-loop
 add-count c = let z = c .before .before .before .before .before .before .before .before .before .before .before .before .before .before .before .before .before in
     let a = z .args in
     let l = c .before .before .before .before .before .before .before .before .loop in
     let t = c .before .before .before .before .before .before .before .loop-test .taken in
-    let g = go-on (given (a .sizes) (a .table .now) (a .letters .now) (a .successors .now) (z .pre .0) (z .pre .1)) (l .fresh) (l .level) (l .count) (c .before .before .round .result) _ _ (l .inv .2) t (c .before .before .before .before .before .final-all .ensures .no-fails (c .before .before .before .before .if1 .left)) (c .before .before .round .ensures) in
+    let g = go-on (given (a .sizes) (a .table .now) (a .letters .now) (a .successors .now) (z .pre .0) (z .pre .1)) (l .fresh) (l .level) (l .count) (c .before .before .round .result) _ _ (l .inv .1) t (c .before .before .before .before .before .final-all .ensures .no-fails (c .before .before .before .before .if1 .left)) (c .before .before .round .ensures) in
     omega (arith, g .marked .few)
 
 loop-less : tie.Need-loop-less Inv-loop μ-loop
@@ -62,7 +64,7 @@ loop-less c = let z = c .before .before .before .before .before .before .before 
     let a = z .args in
     let l = c .before .before .before .before .before .before .before .before .loop in
     let t = c .before .before .before .before .before .before .before .loop-test .taken in
-    let g = go-on (given (a .sizes) (a .table .now) (a .letters .now) (a .successors .now) (z .pre .0) (z .pre .1)) (l .fresh) (l .level) (l .count) (c .before .before .round .result) _ _ (l .inv .2) t (c .before .before .before .before .before .final-all .ensures .no-fails (c .before .before .before .before .if1 .left)) (c .before .before .round .ensures) in
+    let g = go-on (given (a .sizes) (a .table .now) (a .letters .now) (a .successors .now) (z .pre .0) (z .pre .1)) (l .fresh) (l .level) (l .count) (c .before .before .round .result) _ _ (l .inv .1) t (c .before .before .before .before .before .final-all .ensures .no-fails (c .before .before .before .before .if1 .left)) (c .before .before .round .ensures) in
     omega (arith, t, g .marked .few)
 
 loop-again : tie.Need-loop-again Inv-loop μ-loop
@@ -70,18 +72,18 @@ loop-again c = let z = c .before .before .before .before .before .before .before
     let a = z .args in
     let l = c .before .before .before .before .before .before .before .before .loop in
     let t = c .before .before .before .before .before .before .before .loop-test .taken in
-    let g = go-on (given (a .sizes) (a .table .now) (a .letters .now) (a .successors .now) (z .pre .0) (z .pre .1)) (l .fresh) (l .level) (l .count) (c .before .before .round .result) _ _ (l .inv .2) t (c .before .before .before .before .before .final-all .ensures .no-fails (c .before .before .before .before .if1 .left)) (c .before .before .round .ensures) in
-    (c .before .before .round .ensures .size ∙ l .inv .0, λ i h. c .before .before .round .ensures .past i h ∙ l .inv .1 i h, g)
+    let g = go-on (given (a .sizes) (a .table .now) (a .letters .now) (a .successors .now) (z .pre .0) (z .pre .1)) (l .fresh) (l .level) (l .count) (c .before .before .round .result) _ _ (l .inv .1) t (c .before .before .before .before .before .final-all .ensures .no-fails (c .before .before .before .before .if1 .left)) (c .before .before .round .ensures) in
+    (beyond-then (l .inv .0) (c .before .before .round .ensures .beyond), g)
 
 same-length-2 : tie.Need-same-length-2 Inv-loop μ-loop
-same-length-2 c = c .before .loop .inv .0 ∙ c .before .before .before .before .push-all .ensures .1 .size
+same-length-2 c = c .before .loop .inv .0 .size ∙ c .before .before .before .before .push-all .ensures .1 .beyond .size
 
 returns-2 : tie.Need-returns-2 Inv-loop μ-loop
 returns-2 c = let z = c .before .before .before .before .before .before .before .before .before .before in
     let a = z .args in
     let l = c .before .loop in
     let e = c .before .before .before .before .push-all .ensures in
-    (record { size = l .inv .0 ∙ e .1 .size; rest = λ i h. l .inv .1 i h ∙ e .1 .past i h }, go-none (given (a .sizes) (a .table .now) (a .letters .now) (a .successors .now) (z .pre .0) (z .pre .1)) _ _ _ _ (l .inv .2) (c .loop-test .left))
+    (beyond-then (e .1 .beyond) (l .inv .0), go-none (given (a .sizes) (a .table .now) (a .letters .now) (a .successors .now) (z .pre .0) (z .pre .1)) _ _ _ _ (l .inv .1) (c .loop-test .left))
 
 pub forward-spec : {M : Type 1} → statement M
 forward-spec =

@@ -2,7 +2,7 @@
 -- Assumes nothing.
 use native.Mathlib.Omega.{arith}
 use Rattle.search.proofs.Given.{given}
-use Rattle.search.proofs.Picking.{beyond-none}
+use Rattle.tables.proofs.Beyonds.{beyond-none}
 use Rattle.search.proofs.Finding.{answers-nothing, level-small, ready, answers-found}
 use borrow.Author.Needs.{needs}
 use Rattle.search.proofs.inner.passes.Statement.{statement}

@@ -14,19 +14,19 @@ clear-requires-2 c κs = c .before .before .before .before .before .before .befo
 
 passes-requires : tie.Need-passes-requires
 passes-requires c κs = let z = c .before .before .before .before .before .before .before .before .before .before .before .before .before .before .before .before .before in
-    (z .pre .0, z .pre .1, z .pre .2, omega (arith, z .pre .3, c .before .before .before .before .before .before .before .before .before .clear .ensures .size), omega (arith, z .pre .4, c .before .before .before .before .before .clear2 .ensures .size), z .pre .5, c .before .before .before .before .before .before .before .before .before .clear .ensures .zeros, c .before .before .before .before .before .clear2 .ensures .zeros)
+    (z .pre .0, z .pre .1, z .pre .2, omega (arith, z .pre .3, c .before .before .before .before .before .before .before .before .before .clear .ensures .beyond .size), omega (arith, z .pre .4, c .before .before .before .before .before .clear2 .ensures .beyond .size), z .pre .5, c .before .before .before .before .before .before .before .before .before .clear .ensures .zeros, c .before .before .before .before .before .clear2 .ensures .zeros)
 
 clear-requires-3 : tie.Need-clear-requires-3
-clear-requires-3 c κs = omega (arith, c .before .before .before .before .before .before .before .before .before .before .before .before .before .before .before .before .before .before .before .before .before .before .before .before .before .pre .3, c .before .before .before .before .before .before .before .before .before .before .before .before .before .before .before .before .before .clear .ensures .size, c .before .before .before .before .before .before .before .passes .ensures .1 .size)
+clear-requires-3 c κs = omega (arith, c .before .before .before .before .before .before .before .before .before .before .before .before .before .before .before .before .before .before .before .before .before .before .before .before .before .pre .3, c .before .before .before .before .before .before .before .before .before .before .before .before .before .before .before .before .before .clear .ensures .beyond .size, c .before .before .before .before .before .before .before .passes .ensures .1 .size)
 
 clear-requires-4 : tie.Need-clear-requires-4
-clear-requires-4 c κs = omega (arith, c .before .before .before .before .before .before .before .before .before .before .before .before .before .before .before .before .before .before .before .before .before .before .before .before .before .before .before .before .before .pre .4, c .before .before .before .before .before .before .before .before .before .before .before .before .before .before .before .before .before .clear2 .ensures .size, c .before .before .before .before .before .before .before .before .before .before .before .passes .ensures .2 .size)
+clear-requires-4 c κs = omega (arith, c .before .before .before .before .before .before .before .before .before .before .before .before .before .before .before .before .before .before .before .before .before .before .before .before .before .before .before .before .before .pre .4, c .before .before .before .before .before .before .before .before .before .before .before .before .before .before .before .before .before .clear2 .ensures .beyond .size, c .before .before .before .before .before .before .before .before .before .before .before .passes .ensures .2 .size)
 
 same-length : tie.Need-same-length
-same-length c = c .before .before .before .before .before .before .clear3 .ensures .size ∙ c .before .before .before .before .before .before .before .before .before .before .before .before .before .before .passes .ensures .1 .size ∙ c .before .before .before .before .before .before .before .before .before .before .before .before .before .before .before .before .before .before .before .before .before .before .before .before .clear .ensures .size
+same-length c = c .before .before .before .before .before .before .clear3 .ensures .beyond .size ∙ c .before .before .before .before .before .before .before .before .before .before .before .before .before .before .passes .ensures .1 .size ∙ c .before .before .before .before .before .before .before .before .before .before .before .before .before .before .before .before .before .before .before .before .before .before .before .before .clear .ensures .beyond .size
 
 same-length-2 : tie.Need-same-length-2
-same-length-2 c = c .before .before .clear4 .ensures .size ∙ c .before .before .before .before .before .before .before .before .before .before .before .before .before .before .passes .ensures .2 .size ∙ c .before .before .before .before .before .before .before .before .before .before .before .before .before .before .before .before .before .before .before .before .clear2 .ensures .size
+same-length-2 c = c .before .before .clear4 .ensures .beyond .size ∙ c .before .before .before .before .before .before .before .before .before .before .before .before .before .before .passes .ensures .2 .size ∙ c .before .before .before .before .before .before .before .before .before .before .before .before .before .before .before .before .before .before .before .before .clear2 .ensures .beyond .size
 
 same-length-3 : tie.Need-same-length-3
 same-length-3 c = kept-size (c .before .before .before .before .before .before .before .before .before .before .before .before .before .before .passes .result) _ _ (c .before .before .before .before .before .before .before .before .before .before .before .before .before .before .passes .ensures .0 .run-kept)

@@ -1,7 +1,7 @@
 -- The proof of the cycle of calls {shape_at}. The measure is what is left of the slice from `at` on. Assumes nothing.
 use borrow.Author.Needs.{needs}
 use Prim.Native.Nat.{ℕ, _<_, _-_}
-use mathlib.Core.Path.{_≡_}
+use mathlib.Core.Path.{_≡_, sym, ap, _∙_}
 use native.Mathlib.Omega.{arith}
 use lib.ListN.{length, getD}
 use Rattle.rules.specs.declared.kinds.RuleKind.the-variants.{Letter, Empty, Two, Again}
@@ -74,7 +74,7 @@ shape-at-formula-past-requires t c κs =
     let at = st .args .at in
     let g = st .pre .1 in
     let l = rule-here s at (stands-good s at 0 g) in
-    let q : kindOf (getD s at 0) ≡ OfRule Letter = cc in
+    let q : kindOf (getD s at 0) ≡ OfRule Letter = sym (c .before .before .before .before .before .kind-of .ensures) ∙ c .before .before .before .k .given .1 ∙ ap OfRule (c .enum-told3 .given .1) in
     good-letter s at (stands-good s at 0 g) q
 
 shape-at-enum-told-4 : (t : ℕ) → shape-at-lts.Need-enum-told-4 (shape-at-calls t) (shape-at-at t) shape-at.Post
@@ -108,7 +108,7 @@ shape-at-shape-at-requires t c κs =
     let at = st .args .at in
     let g = st .pre .1 in
     let l = rule-here s at (stands-good s at 0 g) in
-    let q : kindOf (getD s at 0) ≡ OfRule (Again (c .before .k2 .given .0 .0)) = cc in
+    let q : kindOf (getD s at 0) ≡ OfRule (Again (c .before .k2 .given .0 .0)) = sym (c .before .before .before .before .before .before .kind-of .ensures) ∙ c .before .before .before .before .k .given .1 ∙ ap OfRule (c .before .k2 .given .1) in
     (omega arith, fits-again s at 0 g _ q)
 
 shape-at-again-shape-requires : (t : ℕ) → shape-at-lts.Need-again-shape-requires (shape-at-calls t) (shape-at-at t) shape-at.Post
@@ -133,7 +133,7 @@ shape-at-shape-at-requires-2 t c κs =
     let at = st .args .at in
     let g = st .pre .1 in
     let l = rule-here s at (stands-good s at 0 g) in
-    let q : kindOf (getD s at 0) ≡ OfRule (Two (c .before .k3 .given .0 .0)) = cc in
+    let q : kindOf (getD s at 0) ≡ OfRule (Two (c .before .k3 .given .0 .0)) = sym (c .before .before .before .before .before .before .kind-of .ensures) ∙ c .before .before .before .before .k .given .1 ∙ ap OfRule (c .before .k3 .given .1) in
     (omega arith, fits-first s at 0 g _ q)
 
 shape-at-shape-at-requires-3 : (t : ℕ) → shape-at-lts.Need-shape-at-requires-3 (shape-at-calls t) (shape-at-at t) shape-at.Post
@@ -143,7 +143,7 @@ shape-at-shape-at-requires-3 t c κs =
     let at = st .args .at in
     let g = st .pre .1 in
     let l = rule-here s at (stands-good s at 0 g) in
-    let q : kindOf (getD s at 0) ≡ OfRule (Two (c .before .before .k3 .given .0 .0)) = cc in
+    let q : kindOf (getD s at 0) ≡ OfRule (Two (c .before .before .k3 .given .0 .0)) = sym (c .before .before .before .before .before .before .before .kind-of .ensures) ∙ c .before .before .before .before .before .k .given .1 ∙ ap OfRule (c .before .before .k3 .given .1) in
     let h = fits-second s at 0 g _ q (c .shape-at2 .result) (c .shape-at2 .ensures) in
     (omega arith, h .0)
 
@@ -154,7 +154,7 @@ shape-at-pair-shape-requires t c κs =
     let at = st .args .at in
     let g = st .pre .1 in
     let l = rule-here s at (stands-good s at 0 g) in
-    let q : kindOf (getD s at 0) ≡ OfRule (Two (c .before .before .before .k3 .given .0 .0)) = cc in
+    let q : kindOf (getD s at 0) ≡ OfRule (Two (c .before .before .before .k3 .given .0 .0)) = sym (c .before .before .before .before .before .before .before .before .kind-of .ensures) ∙ c .before .before .before .before .before .before .k .given .1 ∙ ap OfRule (c .before .before .before .k3 .given .1) in
     let w = pair-weights s at 0 g _ q (c .before .shape-at2 .result) (c .shape-at3 .result) (c .before .shape-at2 .ensures) (c .shape-at3 .ensures) in
     (w .0, w .1, omega (arith, w .2))
 
@@ -165,7 +165,7 @@ shape-at-returns t c =
     let at = st .args .at in
     let g = st .pre .1 in
     let l = rule-here s at (stands-good s at 0 g) in
-    let q : kindOf (getD s at 0) ≡ Unknown = cc in
+    let q : kindOf (getD s at 0) ≡ Unknown = sym (c .before .before .kind-of .ensures) ∙ c .enum-told .given .1 in
     absurd (not-unknown s at (stands-good s at 0 g) q)
 
 shape-at-returns-2 : (t : ℕ) → shape-at-lts.Need-returns-2 (shape-at-calls t) (shape-at-at t) shape-at.Post
@@ -175,7 +175,7 @@ shape-at-returns-2 t c =
     let at = st .args .at in
     let g = st .pre .1 in
     let l = rule-here s at (stands-good s at 0 g) in
-    let q : kindOf (getD s at 0) ≡ OfFormula (c .enum-told2 .given .0 .0) = cc in
+    let q : kindOf (getD s at 0) ≡ OfFormula (c .enum-told2 .given .0 .0) = sym (c .before .before .kind-of .ensures) ∙ c .enum-told2 .given .1 in
     absurd (not-formula s at (stands-good s at 0 g) _ q)
 
 shape-at-returns-3 : (t : ℕ) → shape-at-lts.Need-returns-3 (shape-at-calls t) (shape-at-at t) shape-at.Post
@@ -185,7 +185,7 @@ shape-at-returns-3 t c =
     let at = st .args .at in
     let g = st .pre .1 in
     let l = rule-here s at (stands-good s at 0 g) in
-    let q : kindOf (getD s at 0) ≡ OfRule Letter = cc in
+    let q : kindOf (getD s at 0) ≡ OfRule Letter = sym (c .before .before .before .before .before .before .kind-of .ensures) ∙ c .before .before .before .before .k .given .1 ∙ ap OfRule (c .before .enum-told3 .given .1) in
     shaped-letter s at q (c .formula-past .result) (c .formula-past .ensures)
 
 shape-at-returns-4 : (t : ℕ) → shape-at-lts.Need-returns-4 (shape-at-calls t) (shape-at-at t) shape-at.Post
@@ -195,7 +195,7 @@ shape-at-returns-4 t c =
     let at = st .args .at in
     let g = st .pre .1 in
     let l = rule-here s at (stands-good s at 0 g) in
-    let q : kindOf (getD s at 0) ≡ OfRule Empty = cc in
+    let q : kindOf (getD s at 0) ≡ OfRule Empty = sym (c .before .before .before .before .before .kind-of .ensures) ∙ c .before .before .before .k .given .1 ∙ ap OfRule (c .enum-told4 .given .1) in
     shaped-empty s at q
 
 shape-at-returns-5 : (t : ℕ) → shape-at-lts.Need-returns-5 (shape-at-calls t) (shape-at-at t) shape-at.Post
@@ -205,7 +205,7 @@ shape-at-returns-5 t c =
     let at = st .args .at in
     let g = st .pre .1 in
     let l = rule-here s at (stands-good s at 0 g) in
-    let q : kindOf (getD s at 0) ≡ OfRule (Again (c .before .before .before .k2 .given .0 .0)) = cc in
+    let q : kindOf (getD s at 0) ≡ OfRule (Again (c .before .before .before .k2 .given .0 .0)) = sym (c .before .before .before .before .before .before .before .before .kind-of .ensures) ∙ c .before .before .before .before .before .before .k .given .1 ∙ ap OfRule (c .before .before .before .k2 .given .1) in
     shaped-again s at _ q (c .before .shape-at .result) (c .again-shape .result) (c .before .shape-at .ensures) (c .again-shape .ensures)
 
 shape-at-returns-6 : (t : ℕ) → shape-at-lts.Need-returns-6 (shape-at-calls t) (shape-at-at t) shape-at.Post
@@ -215,7 +215,7 @@ shape-at-returns-6 t c =
     let at = st .args .at in
     let g = st .pre .1 in
     let l = rule-here s at (stands-good s at 0 g) in
-    let q : kindOf (getD s at 0) ≡ OfRule (Two (c .before .before .before .before .k3 .given .0 .0)) = cc in
+    let q : kindOf (getD s at 0) ≡ OfRule (Two (c .before .before .before .before .k3 .given .0 .0)) = sym (c .before .before .before .before .before .before .before .before .before .kind-of .ensures) ∙ c .before .before .before .before .before .before .before .k .given .1 ∙ ap OfRule (c .before .before .before .before .k3 .given .1) in
     shaped-two s at _ q (c .before .before .shape-at2 .result) (c .before .shape-at3 .result) (c .pair-shape .result) (c .before .before .shape-at2 .ensures) (c .before .shape-at3 .ensures) (c .pair-shape .ensures)
 
 pub +shape-at-spec : {M : Type 1} → statement M

@@ -1,7 +1,7 @@
 -- What is left to show of the function that fills in a rule of any kind. Assumes nothing.
 use borrow.Author.Needs.{needs}
 use Prim.Native.Nat.{ℕ, _+_, _-_}
-use mathlib.Core.Path.{_≡_}
+use mathlib.Core.Path.{_≡_, sym, ap, _∙_}
 use native.Mathlib.Omega.{arith}
 use lib.ListN.{getD}
 use Rattle.rules.specs.declared.kinds.RuleKind.the-variants.{Letter, Empty, Two, Again}
@@ -63,7 +63,7 @@ build-at-label-at-requires t c κs =
     let y = st .pre .1 .1 in
     let l = rule-here s at (stands-good s at base g) in
     let m = base-small s at base g in
-    let q : kindOf (getD s at 0) ≡ OfRule Letter = cc in
+    let q : kindOf (getD s at 0) ≡ OfRule Letter = sym (c .before .before .before .before .before .kind-of .ensures) ∙ c .before .before .before .k .given .1 ∙ ap OfRule (c .enum-told3 .given .1) in
     good-letter s at (stands-good s at base g) q
 
 pub build-at-add-put : (t : ℕ) → build-at-lts.Need-add-put (build-at-calls t) (build-at-at t) build-at.Post
@@ -88,7 +88,7 @@ build-at-put-requires t c κs =
     let y = st .pre .1 .1 in
     let l = rule-here s at (stands-good s at base g) in
     let m = base-small s at base g in
-    let q : kindOf (getD s at 0) ≡ OfRule Letter = cc in
+    let q : kindOf (getD s at 0) ≡ OfRule Letter = sym (c .before .before .before .before .before .before .before .kind-of .ensures) ∙ c .before .before .before .before .before .k .given .1 ∙ ap OfRule (c .before .before .enum-told3 .given .1) in
     omega (arith, y .long, letter-room s at base g q)
 
 pub build-at-enum-told-4 : (t : ℕ) → build-at-lts.Need-enum-told-4 (build-at-calls t) (build-at-at t) build-at.Post
@@ -119,7 +119,7 @@ build-at-again-at-requires t c κs =
     let y = st .pre .1 .1 in
     let l = rule-here s at (stands-good s at base g) in
     let m = base-small s at base g in
-    let q : kindOf (getD s at 0) ≡ OfRule (Again (c .before .enum-told5 .given .0 .0)) = cc in
+    let q : kindOf (getD s at 0) ≡ OfRule (Again (c .before .enum-told5 .given .0 .0)) = sym (c .before .before .before .before .before .before .kind-of .ensures) ∙ c .before .before .before .before .k .given .1 ∙ ap OfRule (c .before .enum-told5 .given .1) in
     (omega arith, (fits-again s at base g _ q, y))
 
 pub build-at-enum-known-k-2 : (t : ℕ) → build-at-lts.Need-enum-known-k-2 (build-at-calls t) (build-at-at t) build-at.Post
@@ -147,7 +147,7 @@ build-at-shape-at-requires t c κs =
     let y = st .pre .1 .1 in
     let l = rule-here s at (stands-good s at base g) in
     let m = base-small s at base g in
-    let q : kindOf (getD s at 0) ≡ OfRule (Two (c .before .k2 .given .0 .0)) = cc in
+    let q : kindOf (getD s at 0) ≡ OfRule (Two (c .before .k2 .given .0 .0)) = sym (c .before .before .before .before .before .before .kind-of .ensures) ∙ c .before .before .before .before .k .given .1 ∙ ap OfRule (c .before .k2 .given .1) in
     fits-zero s (at + 1) base (fits-first s at base g _ q)
 
 pub build-at-shape-at-requires-2 : (t : ℕ) → build-at-lts.Need-shape-at-requires-2 (build-at-calls t) (build-at-at t) build-at.Post
@@ -160,7 +160,7 @@ build-at-shape-at-requires-2 t c κs =
     let y = st .pre .1 .1 in
     let l = rule-here s at (stands-good s at base g) in
     let m = base-small s at base g in
-    let q : kindOf (getD s at 0) ≡ OfRule (Two (c .before .before .k2 .given .0 .0)) = cc in
+    let q : kindOf (getD s at 0) ≡ OfRule (Two (c .before .before .k2 .given .0 .0)) = sym (c .before .before .before .before .before .before .before .kind-of .ensures) ∙ c .before .before .before .before .before .k .given .1 ∙ ap OfRule (c .before .before .k2 .given .1) in
     fits-zero s _ base (fits-second s at base g _ q (c .shape-at .result) (c .shape-at .ensures) .0)
 
 pub build-at-pair-at-requires : (t : ℕ) → build-at-lts.Need-pair-at-requires (build-at-calls t) (build-at-at t) build-at.Post
@@ -173,7 +173,7 @@ build-at-pair-at-requires t c κs =
     let y = st .pre .1 .1 in
     let l = rule-here s at (stands-good s at base g) in
     let m = base-small s at base g in
-    let q : kindOf (getD s at 0) ≡ OfRule (Two (c .before .before .before .before .k2 .given .0 .0)) = cc in
+    let q : kindOf (getD s at 0) ≡ OfRule (Two (c .before .before .before .before .k2 .given .0 .0)) = sym (c .before .before .before .before .before .before .before .before .before .kind-of .ensures) ∙ c .before .before .before .before .before .before .before .k .given .1 ∙ ap OfRule (c .before .before .before .before .k2 .given .1) in
     let h = c .before .before .shape-at .result in
     let k = c .before .shape-at2 .result in
     let u = c .before .before .shape-at .ensures in
@@ -190,7 +190,7 @@ build-at-returns t c =
     let y = st .pre .1 .1 in
     let l = rule-here s at (stands-good s at base g) in
     let m = base-small s at base g in
-    let q : kindOf (getD s at 0) ≡ Unknown = cc in
+    let q : kindOf (getD s at 0) ≡ Unknown = sym (c .before .before .kind-of .ensures) ∙ c .enum-told .given .1 in
     absurd (not-unknown s at (stands-good s at base g) q)
 
 pub build-at-returns-2 : (t : ℕ) → build-at-lts.Need-returns-2 (build-at-calls t) (build-at-at t) build-at.Post
@@ -203,7 +203,7 @@ build-at-returns-2 t c =
     let y = st .pre .1 .1 in
     let l = rule-here s at (stands-good s at base g) in
     let m = base-small s at base g in
-    let q : kindOf (getD s at 0) ≡ OfFormula (c .enum-told2 .given .0 .0) = cc in
+    let q : kindOf (getD s at 0) ≡ OfFormula (c .enum-told2 .given .0 .0) = sym (c .before .before .kind-of .ensures) ∙ c .enum-told2 .given .1 in
     absurd (not-formula s at (stands-good s at base g) _ q)
 
 pub build-at-same-length : (t : ℕ) → build-at-lts.Need-same-length (build-at-calls t) (build-at-at t) build-at.Post
@@ -220,7 +220,7 @@ build-at-returns-3 t c =
     let y = st .pre .1 .1 in
     let l = rule-here s at (stands-good s at base g) in
     let m = base-small s at base g in
-    let q : kindOf (getD s at 0) ≡ OfRule Letter = cc in
+    let q : kindOf (getD s at 0) ≡ OfRule Letter = sym (c .before .before .before .before .before .before .before .before .before .before .kind-of .ensures) ∙ c .before .before .before .before .before .before .before .before .k .given .1 ∙ ap OfRule (c .before .before .before .before .before .enum-told3 .given .1) in
     letter-done s at base g q _ _ _ y (c .before .before .before .before .label-at .ensures) (c .before .before .put .ensures)
 
 pub build-at-returns-4 : (t : ℕ) → build-at-lts.Need-returns-4 (build-at-calls t) (build-at-at t) build-at.Post
@@ -233,7 +233,7 @@ build-at-returns-4 t c =
     let y = st .pre .1 .1 in
     let l = rule-here s at (stands-good s at base g) in
     let m = base-small s at base g in
-    let q : kindOf (getD s at 0) ≡ OfRule Empty = cc in
+    let q : kindOf (getD s at 0) ≡ OfRule Empty = sym (c .before .before .before .before .before .kind-of .ensures) ∙ c .before .before .before .k .given .1 ∙ ap OfRule (c .enum-told4 .given .1) in
     empty-done s at base g q _ y
 
 pub build-at-same-length-2 : (t : ℕ) → build-at-lts.Need-same-length-2 (build-at-calls t) (build-at-at t) build-at.Post
@@ -250,7 +250,7 @@ build-at-returns-5 t c =
     let y = st .pre .1 .1 in
     let l = rule-here s at (stands-good s at base g) in
     let m = base-small s at base g in
-    let q : kindOf (getD s at 0) ≡ OfRule (Again (c .before .before .before .before .enum-told5 .given .0 .0)) = cc in
+    let q : kindOf (getD s at 0) ≡ OfRule (Again (c .before .before .before .before .enum-told5 .given .0 .0)) = sym (c .before .before .before .before .before .before .before .before .before .kind-of .ensures) ∙ c .before .before .before .before .before .before .before .k .given .1 ∙ ap OfRule (c .before .before .before .before .enum-told5 .given .1) in
     again-step s at base g _ q _ _ (c .before .before .again-at .ensures)
 
 pub build-at-same-length-3 : (t : ℕ) → build-at-lts.Need-same-length-3 (build-at-calls t) (build-at-at t) build-at.Post
@@ -267,5 +267,5 @@ build-at-returns-6 t c =
     let y = st .pre .1 .1 in
     let l = rule-here s at (stands-good s at base g) in
     let m = base-small s at base g in
-    let q : kindOf (getD s at 0) ≡ OfRule (Two (c .before .before .before .before .before .before .before .k2 .given .0 .0)) = cc in
+    let q : kindOf (getD s at 0) ≡ OfRule (Two (c .before .before .before .before .before .before .before .k2 .given .0 .0)) = sym (c .before .before .before .before .before .before .before .before .before .before .before .before .kind-of .ensures) ∙ c .before .before .before .before .before .before .before .before .before .before .k .given .1 ∙ ap OfRule (c .before .before .before .before .before .before .before .k2 .given .1) in
     pair-step s at base g _ q (c .before .before .before .before .before .shape-at .result) (c .before .before .before .before .shape-at2 .result) (c .before .before .before .before .before .shape-at .ensures) (c .before .before .before .before .shape-at2 .ensures) _ _ (c .before .before .pair-at .ensures)
