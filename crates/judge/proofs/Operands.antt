@@ -1,21 +1,18 @@
 -- From the answers of the operands that stand in the bytes to those of the rule. Assumes nothing.
 use Prim.Native.Nat.{ℕ, _+_}
-use mathlib.Core.Path.{_≡_, refl, subst⁻¹}
+use mathlib.Core.Path.{_≡_, subst⁻¹}
 use mathlib.Core.List.{List}
 use lib.ListN.{getD}
 use Rattle.rules.specs.declared.kinds.Pair.{Pair}
 use Rattle.rules.specs.declared.kinds.Repeat.{Repeat}
 use Rattle.rules.specs.declared.kinds.Repeat.the-variants.{Star, Plus}
-use Rattle.rules.specs.declared.kinds.RuleKind.{RuleKind}
 use Rattle.rules.specs.declared.kinds.RuleKind.the-variants.{Letter, Empty, Two, Again}
-use Rattle.rules.specs.declared.kinds.Kind.{Kind}
-use Rattle.rules.specs.declared.kinds.Kind.the-variants.{OfRule, OfFormula, Unknown}
+use Rattle.rules.specs.declared.kinds.Kind.the-variants.{OfRule}
 use Rattle.rules.specs.Definition1.{Rule}
 use Rattle.rules.specs.Definition2.{Sat}
 use Rattle.rules.specs.Kinds.{kindOf}
-use Rattle.rules.specs.Places.{RuleAt, GoodRule, RuleEnds}
+use Rattle.rules.specs.Places.{RuleAt, RuleEnds}
 use Rattle.rules.proofs.Unique.{rule-of}
-use Rattle.rules.proofs.Walks.{not-unknown, not-formula}
 use Rattle.judge.specs.Parts.{Few, Judged, Filled}
 use Rattle.judge.specs.Cut.{PairAt, StarAt, PlusOf}
 use Rattle.judge.specs.Judging.{LetterParts, JudgedAt, RepeatedAt}
@@ -46,12 +43,3 @@ module _ (s : List ℕ) (at : ℕ) (w : List ℕ) (few : Few w) where
 
   pub repeated-once : (a b : List ℕ) → JudgedAt s at w a → PlusOf a b → RepeatedAt Plus s at w b
   repeated-once a b ha h r e d = judged-plus w few r (ha r e d) h
-
--- where a rule stands, the kind byte is a rule's
-pub is-rule : (s : List ℕ) (at : ℕ) → GoodRule s at → (k : RuleKind) × (kindOf (getD s at 0) ≡ OfRule k)
-is-rule s at g = go (kindOf (getD s at 0)) refl
-  where
-    go : (κ : Kind) → kindOf (getD s at 0) ≡ κ → (k : RuleKind) × (kindOf (getD s at 0) ≡ OfRule k)
-    go (OfRule k) q = (k, q)
-    go (OfFormula f) q = absurd (not-formula s at g f q)
-    go Unknown q = absurd (not-unknown s at g q)

@@ -1,16 +1,14 @@
 -- The line of an input is that of its first 961 bytes: the length byte, 255 bytes of a rule and 705 of a model. A program may read these alone. Assumes nothing.
-use Prim.Native.Nat.{ℕ, suc, _+_, _-_, _≤_, _<_}
+use Prim.Native.Nat.{ℕ, _+_, _-_, _<_}
 use native.Mathlib.Decide.{decLt}
 use native.Mathlib.Omega.{arith}
-use mathlib.Core.Path.{_≡_, refl, sym, ap, subst, _∙_}
+use mathlib.Core.Path.{_≡_, sym, ap, subst, _∙_}
 use mathlib.Core.List.{List, [], _∷_}
 use lib.ListN.{length, getD, take, drop, length-take, length-drop}
 use lib.Seq.{take-all, take-take, getD-take, getD-drop}
-use Rattle.rules.specs.Definition1.{Rule}
 use Rattle.models.specs.Stored.{modelOf}
 use Rattle.models.specs.Answer as models
 use Rattle.models.proofs.Beginning.{long-alike}
-use Rattle.search.specs.Right.{Answer}
 use Rattle.search.specs.Answer.{Slices, Result, told, Searches, SearchRight, rule-refused, model-refused, short-slice, searched}
 use Rattle.lines.specs.Input.{ruleIn, modelIn}
 use Rattle.lines.specs.Line.{fresh, LineOf}

@@ -1,7 +1,7 @@
 -- The text of an answer has room: how long it can get. Assumes nothing.
 use Prim.Native.Nat.{ℕ, _+_, _*_, _^_, _≤_, _<_}
 use native.Mathlib.Omega.{arith}
-use mathlib.Core.Path.{_≡_, refl, sym, ap, subst, _∙_}
+use mathlib.Core.Path.{_≡_, refl, subst}
 use mathlib.Core.List.{List, _++_}
 use lib.ListN.{length, getD, take, length-append, length-take}
 use Rattle.rules.specs.declared.Known.{Known}

@@ -1,5 +1,5 @@
 -- Laws of a run's text: one state more, and how long it gets. Assumes nothing.
-use Prim.Native.Nat.{ℕ, suc, _+_, _-_, _*_, _^_, _≤_, _<_}
+use Prim.Native.Nat.{ℕ, _+_, _-_, _*_, _≤_, _<_}
 use native.Mathlib.Omega.{arith}
 use native.Mathlib.Numerals.{add-one}
 use mathlib.Core.Path.{_≡_, refl, sym, ap, subst, _∙_}
@@ -8,7 +8,6 @@ use mathlib.Core.List.{List, [], _∷_, _++_, append-assoc, append-nil}
 use lib.ListN.{length, getD, take, drop, length-append}
 use lib.Seq.{take-suc, take-add}
 use Rattle.models.specs.Model.{Model, Walk}
-use Rattle.lines.specs.Decimal.{decimal}
 use Rattle.lines.specs.Text.{stateText, statesText}
 use Rattle.lines.specs.Writing.{Wrote}
 use Rattle.lines.proofs.Wrotes.{wrote-none, wrote-more}

@@ -5,7 +5,7 @@ use mathlib.Core.List.{List}
 use lib.ListN.{length, getD, length-replicate}
 use Rattle.tables.specs.IsTable.{Words}
 use Rattle.search.specs.declared.SearchAnswer.{SearchAnswer}
-use Rattle.search.specs.Answer.{Slices, slices, told, SearchRight}
+use Rattle.search.specs.Answer.{Slices, told, SearchRight}
 use Rattle.lines.specs.Text.{textOf}
 use Rattle.lines.specs.Input.{ruleIn, modelIn}
 use Rattle.lines.specs.Writing.{Wrote}

@@ -7,7 +7,7 @@ use mathlib.Core.List.{List}
 use lib.Dec.{eqb, leb}
 use lib.ListN.{length, getD}
 use borrow.Author.Tests.{lt-ltb, le-leb}
-use Rattle.models.specs.Reading.{Outcome, good, fault, demand, oneRecord, records, thenLinked}
+use Rattle.models.specs.Reading.{Outcome, fault, demand, oneRecord, records, thenLinked}
 use Rattle.models.specs.Answer.{answer, given, refusedAs}
 use Rattle.models.proofs.Passes.{records-full, one-more}
 

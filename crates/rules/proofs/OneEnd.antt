@@ -1,7 +1,7 @@
 -- No second answer fits the promises of `formula_end` and `rule_end`: one thing stands at a place, or one fault is met. Assumes nothing.
 use Prim.Native.Nat.{ℕ, _+_}
 use native.Mathlib.Omega.{arith}
-use mathlib.Core.Path.{_≡_, refl, sym, ap, _∙_}
+use mathlib.Core.Path.{_≡_, sym, ap, _∙_}
 use mathlib.Core.Bool.{Bool, true, false, cond}
 use mathlib.Core.List.{List, [], _∷_}
 use lib.Dec.{leb}
@@ -12,7 +12,7 @@ use Rattle.rules.specs.declared.ends.Read.the-variants.{Ends, Refused}
 use Rattle.rules.specs.Definition1.{Formula, Rule, empty}
 use Rattle.rules.specs.Definition2.{lastProposition}
 use Rattle.rules.specs.Refusals.{number, place}
-use Rattle.rules.specs.Reading.{Outcome, good, fault, Need, rule, formula, body, Value, Rest, scan}
+use Rattle.rules.specs.Reading.{fault, Need, rule, formula, body, scan}
 use Rattle.rules.specs.Places.{FormulaAt, RuleAt}
 use Rattle.rules.specs.Walks.{shown, Fails, FormulaRead, RuleRead}
 use Rattle.rules.proofs.Scan.{over-formula, over-rule}

@@ -1,7 +1,7 @@
 -- For every walk over a formula or a rule that is known to stand: what its kind byte tells of its operands. Assumes nothing.
 use Prim.Native.Nat.{ℕ, _+_, _<_, _≤_}
 use native.Mathlib.Omega.{arith}
-use mathlib.Core.Path.{_≡_}
+use mathlib.Core.Path.{_≡_, refl}
 use mathlib.Core.List.{List}
 use lib.ListN.{length, getD}
 use Rattle.rules.specs.declared.kinds.FormulaKind.{FormulaKind}
@@ -11,6 +11,7 @@ use Rattle.rules.specs.declared.kinds.RuleKind.{RuleKind}
 use Rattle.rules.specs.declared.kinds.Pair.{Pair}
 use Rattle.rules.specs.declared.kinds.Repeat.{Repeat}
 use Rattle.rules.specs.declared.kinds.RuleKind.the-variants.{Letter, Two, Again}
+use Rattle.rules.specs.declared.kinds.Kind.{Kind}
 use Rattle.rules.specs.declared.kinds.Kind.the-variants.{OfFormula, OfRule, Unknown}
 use Rattle.rules.specs.Definition1.{Rule}
 use Rattle.rules.specs.Kinds.{kindOf}
@@ -27,6 +28,15 @@ module _ (s : List ℕ) (at : ℕ) (g : GoodRule s at) where
 
   pub not-formula : (f : FormulaKind) → kindOf (getD s at 0) ≡ OfFormula f → ⊥
   not-formula f q = rule-of s (OfFormula f) (g .2) q
+
+  -- the kind byte is a rule's
+  pub is-rule : (k : RuleKind) × (kindOf (getD s at 0) ≡ OfRule k)
+  is-rule = go (kindOf (getD s at 0)) refl
+    where
+      go : (κ : Kind) → kindOf (getD s at 0) ≡ κ → (k : RuleKind) × (kindOf (getD s at 0) ≡ OfRule k)
+      go (OfRule k) q = (k, q)
+      go (OfFormula f) q = absurd (not-formula f q)
+      go Unknown q = absurd (not-unknown q)
 
   pub good-letter : kindOf (getD s at 0) ≡ OfRule Letter → GoodFormula s (at + 1)
   good-letter q = let i = rule-of s (OfRule Letter) (g .2) q in (i .0, g .1, i .2)
@@ -49,11 +59,14 @@ module _ (s : List ℕ) (at : ℕ) (g : GoodFormula s at) where
   pub formula-here : at < length s
   formula-here = formula-inside s (g .2)
 
-  pub not-unknown′ : kindOf (getD s at 0) ≡ Unknown → ⊥
-  not-unknown′ q = formula-of s Unknown (g .2) q
-
-  pub not-rule : (r : RuleKind) → kindOf (getD s at 0) ≡ OfRule r → ⊥
-  not-rule r q = formula-of s (OfRule r) (g .2) q
+  -- the kind byte is a formula's
+  pub is-formula : (k : FormulaKind) × (kindOf (getD s at 0) ≡ OfFormula k)
+  is-formula = go (kindOf (getD s at 0)) refl
+    where
+      go : (κ : Kind) → kindOf (getD s at 0) ≡ κ → (k : FormulaKind) × (kindOf (getD s at 0) ≡ OfFormula k)
+      go (OfFormula k) q = (k, q)
+      go (OfRule r) q = absurd (formula-of s (OfRule r) (g .2) q)
+      go Unknown q = absurd (formula-of s Unknown (g .2) q)
 
   pub good-body : kindOf (getD s at 0) ≡ OfFormula Proposition → (at + 1 < length s) × (getD s (at + 1) 0 ≤ 5)
   good-body q = let i = formula-of s (OfFormula Proposition) (g .2) q in (i .1, i .2)

@@ -36,6 +36,11 @@ abbrev pub RuleRead : List ℕ → ℕ → Read → Type 0
 RuleRead s at (Ends e) = (r : Rule) × RuleAt s at r e
 RuleRead s at (Refused x) = Fails s at rule x
 
+-- the end that was read, 0 for a fault
+abbrev pub endOf : Read → ℕ
+endOf (Ends e) = e
+endOf (Refused x) = 0
+
 -- the weight, counted up to one above the limit, and the end
 abbrev pub WeighedAs : List ℕ → ℕ → Weighed → Type 0
 WeighedAs s at w = (r : Rule) (e : ℕ) → RuleAt s at r e → (w .weight ≡ min countedTo (weightOf r)) × (w .end ≡ e)

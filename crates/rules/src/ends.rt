@@ -1,6 +1,7 @@
 // Reading in prefix order: where the formula or the rule that begins at a place ends, or its first fault.
 ghost use Rattle.rules.specs.Places.{GoodFormula, GoodRule, FormulaEnds, RuleEnds};
-ghost use Rattle.rules.specs.Walks.{BodyRead, FormulaRead, RuleRead};
+ghost use mathlib.Core.Path.{_≡_};
+ghost use Rattle.rules.specs.Walks.{endOf, BodyRead, FormulaRead, RuleRead};
 use crate::Refusal;
 use crate::kinds::FormulaKind;
 use crate::kinds::Kind;
@@ -74,15 +75,22 @@ pub fn rule_end(rule: &[u8], at: usize) -> Read
     }
 }
 
+// The place after what was read; 0 where reading met a fault.
+fn end_of(read: Read) -> usize
+    ensures { λ r. ⌜ r ≡ endOf read ⌝ }
+{
+    match read {
+        Read::Ends(e) => e,
+        Read::Refused(_) => 0,
+    }
+}
+
 // The place after the formula that stands at `at`.
 pub fn formula_past(rule: &[u8], at: usize) -> usize
     requires { ⌜ GoodFormula (now rule) at ⌝ }
     ensures { λ r. ⌜ FormulaEnds (now (rule .entry)) at r ⌝ }
 {
-    let Read::Ends(e) = formula_end(rule, at) else {
-        return 0;
-    };
-    e
+    end_of(formula_end(rule, at))
 }
 
 // The place after the rule that stands at `at`.
@@ -90,8 +98,5 @@ pub fn rule_past(rule: &[u8], at: usize) -> usize
     requires { ⌜ GoodRule (now rule) at ⌝ }
     ensures { λ r. ⌜ RuleEnds (now (rule .entry)) at r ⌝ }
 {
-    let Read::Ends(e) = rule_end(rule, at) else {
-        return 0;
-    };
-    e
+    end_of(rule_end(rule, at))
 }

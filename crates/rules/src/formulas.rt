@@ -31,45 +31,41 @@ pub fn holds_at(rule: &[u8], at: usize, letter: u8) -> Held
     requires { ⌜ GoodFormula (now rule) at ⌝ }
     ensures { λ r. ⌜ HoldsAs (now (rule .entry)) at letter r ⌝ }
 {
-    match kind_of(rule[at]) {
-        Kind::Unknown => Held {
+    let Kind::OfFormula(k) = kind_of(rule[at]) else {
+        return Held {
             holds: false,
             end: at,
+        };
+    };
+    match k {
+        FormulaKind::Proposition => Held {
+            holds: bits::has(letter as u64, rule[at + 1] as usize),
+            end: at + 2,
         },
-        Kind::OfRule(_) => Held {
+        FormulaKind::Truth => Held {
+            holds: true,
+            end: at + 1,
+        },
+        FormulaKind::Falsity => Held {
             holds: false,
-            end: at,
+            end: at + 1,
         },
-        Kind::OfFormula(k) => match k {
-            FormulaKind::Proposition => Held {
-                holds: bits::has(letter as u64, rule[at + 1] as usize),
-                end: at + 2,
-            },
-            FormulaKind::Truth => Held {
-                holds: true,
-                end: at + 1,
-            },
-            FormulaKind::Falsity => Held {
-                holds: false,
-                end: at + 1,
-            },
-            FormulaKind::Not => {
-                let a = holds_at(rule, at + 1, letter);
-                Held {
-                    holds: !a.holds,
-                    end: a.end,
-                }
+        FormulaKind::Not => {
+            let a = holds_at(rule, at + 1, letter);
+            Held {
+                holds: !a.holds,
+                end: a.end,
             }
-            FormulaKind::Join(j) => {
-                let a = holds_at(rule, at + 1, letter);
-                let m = a.end;
-                let b = holds_at(rule, m, letter);
-                Held {
-                    holds: join(j, a.holds, b.holds),
-                    end: b.end,
-                }
+        }
+        FormulaKind::Join(j) => {
+            let a = holds_at(rule, at + 1, letter);
+            let m = a.end;
+            let b = holds_at(rule, m, letter);
+            Held {
+                holds: join(j, a.holds, b.holds),
+                end: b.end,
             }
-        },
+        }
     }
 }
 

@@ -2,7 +2,6 @@
 use native.Mathlib.Omega.{arith}
 use mathlib.Core.Path.{refl}
 use lib.ListN.{length-take}
-use borrow.Author.Needs.{needs}
 use Rattle.lines.proofs.front.Statement.{statement}
 use Rattle.lines.proofs.front.Tie as tie
 

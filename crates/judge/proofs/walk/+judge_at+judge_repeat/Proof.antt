@@ -11,8 +11,8 @@ use lib.ListN.{length, getD}
 use Rattle.rules.specs.declared.kinds.RuleKind.the-variants.{Letter, Empty, Two, Again}
 use Rattle.rules.specs.declared.kinds.Kind.the-variants.{OfRule}
 use Rattle.rules.specs.Kinds.{kindOf}
-use Rattle.rules.proofs.Walks.{rule-here, good-letter, good-again, good-first, good-second}
-use Rattle.judge.proofs.Operands.{is-rule, at-letter, at-empty, at-again, at-two, repeated, repeated-once}
+use Rattle.rules.proofs.Walks.{rule-here, is-rule, good-letter, good-again, good-first, good-second}
+use Rattle.judge.proofs.Operands.{at-letter, at-empty, at-again, at-two, repeated, repeated-once}
 use Rattle.judge.proofs.walk.judge_at.Reads as judge-at
 use Rattle.judge.proofs.walk.judge_at.Kinds as judge-at-kinds
 use Rattle.judge.proofs.walk.+judge_at+judge_repeat.Lts-judge_at as judge-at-lts

@@ -1,8 +1,6 @@
 -- `put_states` writes a run state by state. Assumes nothing.
 use Prim.Native.Nat.{_-_, _≤_}
 use native.Mathlib.Omega.{arith}
-use mathlib.Core.Path.{subst}
-use mathlib.Core.List.{List}
 use lib.ListN.{take}
 use Rattle.lines.specs.Text.{statesText}
 use Rattle.lines.specs.Writing.{Wrote}

@@ -1,8 +1,7 @@
 -- `rules::formula_past` meets its contract: where a formula stands, reading it comes to its end. Assumes nothing.
-use Prim.Native.Nat.{ℕ}
-use mathlib.Core.Path.{_≡_}
-use native.Mathlib.Omega.{arith}
+use mathlib.Core.Path.{ap, _∙_}
 use borrow.Author.Needs.{needs}
+use Rattle.rules.specs.Walks.{endOf}
 use Rattle.rules.proofs.Unique.{formula-read}
 use Rattle.rules.proofs.ends.formula_past.Statement.{statement}
 use Rattle.rules.proofs.ends.formula_past.Tie as tie
@@ -10,18 +9,11 @@ use Rattle.rules.proofs.ends.formula_past.Tie as tie
 formula-end-requires : tie.Need-formula-end-requires
 formula-end-requires c κs = search needs
 
-enum-known-e : tie.Need-enum-known-e
-enum-known-e c = search needs
-
-enum-told : tie.Need-enum-told
-enum-told c = search needs
+end-of-requires : tie.Need-end-of-requires
+end-of-requires c κs = search needs
 
 returns : tie.Need-returns
-returns c = λ f e d. let q = formula-read _ _ (c .before .before .formula-end .result) (c .before .before .formula-end .ensures) f e d in let z : _≡_ {A = ℕ} 0 1 = cc in omega arith
-
-returns-2 : tie.Need-returns-2
-returns-2 c = λ f e d. let q = formula-read _ _ (c .before .before .before .formula-end .result) (c .before .before .before .formula-end .ensures) f e d in cc
+returns c = λ f e d. c .end-of .ensures ∙ ap endOf (formula-read _ _ (c .before .formula-end .result) (c .before .formula-end .ensures) f e d)
 
 pub formula-past-spec : {M : Type 1} → statement M
-formula-past-spec =
-    tie.close (tie.spec formula-end-requires enum-known-e enum-told returns returns-2)
+formula-past-spec = tie.close (tie.spec formula-end-requires end-of-requires returns)

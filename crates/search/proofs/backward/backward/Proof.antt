@@ -1,9 +1,8 @@
 -- `search::backward::backward` meets its contract. The invariant is `Backing`: the useful pairs from the level on are marked, and none before it.
 -- Assumes nothing.
-use Prim.Native.Nat.{ℕ, _≤_}
-use mathlib.Core.Path.{_≡_, refl, _∙_}
+use Prim.Native.Nat.{_≤_}
+use mathlib.Core.Path.{_∙_}
 use native.Mathlib.Omega.{arith}
-use lib.ListN.{length, getD}
 use Rattle.tables.specs.Table.{tableOf}
 use Rattle.tables.specs.Beyond.{Beyond}
 use Rattle.tables.proofs.Beyonds.{beyond-none, beyond-then}

@@ -1,9 +1,8 @@
 -- `search::forward::forward` meets its contract. The invariant is `Going`: the marks are those of the level. The measure falls as long as a level adds a pair, and there are fewer than 4,096.
 -- Assumes nothing.
-use Prim.Native.Nat.{ℕ, _+_, _-_, min, _≤_}
-use mathlib.Core.Path.{_≡_, refl, _∙_}
+use Prim.Native.Nat.{_+_, _-_, min}
+use mathlib.Core.Path.{_∙_}
 use native.Mathlib.Omega.{arith}
-use lib.ListN.{length, getD}
 use Rattle.tables.specs.Table.{tableOf}
 use Rattle.tables.specs.Beyond.{Beyond}
 use Rattle.tables.proofs.Beyonds.{beyond-none, beyond-then}
