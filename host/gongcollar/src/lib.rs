@@ -22,7 +22,7 @@ mod tables;
 
 pub use lines::{rulecheck, rulecheck_into};
 pub use models::{read_model, search_into, Lent, ModelInfo, Searched, Workspace};
-pub use refusal::{Kind, Refusal};
+pub use refusal::Refusal;
 pub use rules::{judge, read_rule, RuleInfo};
 pub use tables::{build_into, Built, Stepped, Table, Walker};
 

@@ -3,138 +3,91 @@
 use std::error::Error;
 use std::fmt;
 
-/// What is wrong with an input.
-#[derive(Debug, Clone, Copy, PartialEq, Eq, Hash)]
-#[non_exhaustive]
-pub enum Kind {
-    /// 1: the rule has more than 255 bytes.
-    RuleTooLong,
-    /// 2: the rule ends where another byte is needed.
-    RuleEnded,
-    /// 3: a byte that is no kind stands where a kind is needed.
-    UnknownKind,
-    /// 4: a formula stands where a rule is needed, or a rule where a formula is.
-    WrongSort,
-    /// 5: a proposition above 5.
-    UnknownProposition,
-    /// 6: something follows the complete rule.
-    BytesAfterRule,
-    /// 7: the rule weighs more than 64.
-    TooHeavy,
-    /// 11: the model goes on after 64 states.
-    TooManyStates,
-    /// 12: a record of the model has another kind than a state's.
-    NotAState,
-    /// 13: the model ends inside a record.
-    StateCutShort,
-    /// 14: a state's letter is above 63.
-    StateLetter,
-    /// 15: a state's flag is neither 0 nor 1.
-    StateFlag,
-    /// 16: a state has a successor that does not exist.
-    MissingSuccessor,
-    /// 21: a lent slice has fewer than 4,096 entries.
-    ShortSlice,
-    /// 22: an event's letter is above 63.
-    EventLetter,
-    /// 23: the plain judge was given more than 16 letters.
-    TooManyLetters,
-    /// A number that this crate has no name for.
-    Unnamed(u64),
-}
-
-/// Each kind that has a name, with its number and what is said of it.
-const NAMED: [(Kind, u64, &str); 16] = [
-    (Kind::RuleTooLong, 1, "the rule has more than 255 bytes"),
-    (Kind::RuleEnded, 2, "the rule ends too early"),
-    (Kind::UnknownKind, 3, "no kind of rule or formula"),
-    (
-        Kind::WrongSort,
-        4,
-        "a formula for a rule, or a rule for a formula",
-    ),
-    (Kind::UnknownProposition, 5, "a proposition above 5"),
-    (Kind::BytesAfterRule, 6, "bytes after the complete rule"),
-    (Kind::TooHeavy, 7, "the rule weighs more than 64"),
-    (Kind::TooManyStates, 11, "the model has more than 64 states"),
-    (Kind::NotAState, 12, "no state record"),
-    (
-        Kind::StateCutShort,
-        13,
-        "the model ends inside a state record",
-    ),
-    (Kind::StateLetter, 14, "a state's letter above 63"),
-    (
-        Kind::StateFlag,
-        15,
-        "a state's flag that is neither 0 nor 1",
-    ),
-    (
-        Kind::MissingSuccessor,
-        16,
-        "a successor that does not exist",
-    ),
-    (Kind::ShortSlice, 21, "a lent slice below 4,096 entries"),
-    (Kind::EventLetter, 22, "an event letter above 63"),
-    (Kind::TooManyLetters, 23, "more than 16 letters to judge"),
-];
-
-impl Kind {
-    fn of_number(number: u64) -> Kind {
-        let named = NAMED.iter().find(|row| row.1 == number);
-        named.map_or(Kind::Unnamed(number), |row| row.0)
-    }
-
-    /// The refusal's number.
-    pub fn number(self) -> u64 {
-        match self {
-            Kind::Unnamed(number) => number,
-            named => self::row(named).map_or(0, |row| row.1),
+/// The refusals, each with its number and what is said of it.
+macro_rules! refusals {
+    ($($name:ident = $number:literal: $says:literal;)*) => {
+        /// Why a call gives no answer, and where. Nothing that was lent to the call has changed.
+        #[derive(Debug, Clone, Copy, PartialEq, Eq, Hash)]
+        #[non_exhaustive]
+        pub enum Refusal {
+            $(
+                #[doc = concat!($number, ": ", $says, ".")]
+                $name {
+                    /// See [`Refusal::place`].
+                    place: u64,
+                },
+            )*
+            /// A refusal that this crate has no name for.
+            Unnamed {
+                /// See [`Refusal::number`].
+                number: u64,
+                /// See [`Refusal::place`].
+                place: u64,
+            },
         }
-    }
+
+        impl Refusal {
+            fn of(number: u64, place: u64) -> Refusal {
+                match number {
+                    $($number => Refusal::$name { place },)*
+                    number => Refusal::Unnamed { number, place },
+                }
+            }
+
+            /// The refusal's number.
+            pub fn number(&self) -> u64 {
+                match *self {
+                    $(Refusal::$name { .. } => $number,)*
+                    Refusal::Unnamed { number, .. } => number,
+                }
+            }
+
+            /// The offset of the byte in the rule or the model, or the index of the letter; 0 where there is none.
+            pub fn place(&self) -> u64 {
+                match *self {
+                    $(Refusal::$name { place } => place,)*
+                    Refusal::Unnamed { place, .. } => place,
+                }
+            }
+
+            fn says(&self) -> &'static str {
+                match self {
+                    $(Refusal::$name { .. } => $says,)*
+                    Refusal::Unnamed { .. } => "a refusal without a name",
+                }
+            }
+        }
+
+        #[cfg(test)]
+        const NUMBERS: &[u64] = &[$($number),*];
+    };
 }
 
-fn row(kind: Kind) -> Option<&'static (Kind, u64, &'static str)> {
-    NAMED.iter().find(|row| row.0 == kind)
-}
-
-impl fmt::Display for Kind {
-    fn fmt(&self, f: &mut fmt::Formatter<'_>) -> fmt::Result {
-        f.write_str(row(*self).map_or("a refusal without a name", |row| row.2))
-    }
-}
-
-/// A refusal: what is wrong, and where. Nothing that was lent to the call has changed.
-#[derive(Debug, Clone, Copy, PartialEq, Eq, Hash)]
-pub struct Refusal {
-    kind: Kind,
-    place: u64,
+refusals! {
+    RuleTooLong = 1: "the rule has more than 255 bytes";
+    RuleEnded = 2: "the rule ends where another byte is needed";
+    UnknownKind = 3: "no kind of rule or formula";
+    WrongSort = 4: "a formula for a rule, or a rule for a formula";
+    UnknownProposition = 5: "a proposition above 5";
+    BytesAfterRule = 6: "bytes after the complete rule";
+    TooHeavy = 7: "the rule weighs more than 64";
+    TooManyStates = 11: "the model goes on after 64 states";
+    NotAState = 12: "a record of the model that is no state";
+    StateCutShort = 13: "the model ends inside a state";
+    StateLetter = 14: "a state's letter above 63";
+    StateFlag = 15: "a state's flag that is neither 0 nor 1";
+    MissingSuccessor = 16: "a successor that does not exist";
+    ShortSlice = 21: "a lent slice below 4,096 entries";
+    EventLetter = 22: "an event's letter above 63";
+    TooManyLetters = 23: "more than 16 letters to judge";
 }
 
 impl Refusal {
-    /// What is wrong.
-    pub fn kind(&self) -> Kind {
-        self.kind
-    }
-
-    /// The refusal's number.
-    pub fn number(&self) -> u64 {
-        self.kind.number()
-    }
-
-    /// The offset of the byte in the rule or the model, or the index of the letter; 0 where there is none.
-    pub fn place(&self) -> u64 {
-        self.place
-    }
-
     /// The answer, unless the call refused.
     pub(crate) fn unless<T>(refused: u64, place: u64, answer: T) -> Result<T, Refusal> {
         match refused {
             0 => Ok(answer),
-            number => Err(Refusal {
-                kind: Kind::of_number(number),
-                place,
-            }),
+            number => Err(Refusal::of(number, place)),
         }
     }
 }
@@ -145,8 +98,8 @@ impl fmt::Display for Refusal {
             f,
             "refused {} at {}: {}",
             self.number(),
-            self.place,
-            self.kind
+            self.place(),
+            self.says()
         )
     }
 }
@@ -158,17 +111,23 @@ mod tests {
     use super::*;
 
     #[test]
-    fn numbers_name_their_kinds() {
-        for (kind, number, _) in NAMED {
-            assert_eq!(Kind::of_number(number), kind);
-            assert_eq!(kind.number(), number);
+    fn numbers_and_places_come_back() {
+        for &number in NUMBERS {
+            let refusal = Refusal::of(number, number + 100);
+            assert_eq!(refusal.number(), number);
+            assert_eq!(refusal.place(), number + 100);
+            assert!(!matches!(refusal, Refusal::Unnamed { .. }));
         }
     }
 
     #[test]
     fn a_number_without_a_name_is_kept() {
         let refusal = Refusal::unless(99, 7, ()).unwrap_err();
-        assert_eq!(refusal.kind(), Kind::Unnamed(99));
+        let unnamed = Refusal::Unnamed {
+            number: 99,
+            place: 7,
+        };
+        assert_eq!(refusal, unnamed);
         assert_eq!(
             refusal.to_string(),
             "refused 99 at 7: a refusal without a name"

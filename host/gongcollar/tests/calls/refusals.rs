@@ -5,86 +5,109 @@ use cases::hostile::joined_left;
 use cases::line_input;
 use cases::rules::{ANY, P0};
 use gongcollar::{
-    build_into, judge, read_model, read_rule, rulecheck, Kind, Refusal, Table, Walker, Workspace,
+    build_into, judge, read_model, read_rule, rulecheck, Refusal, Table, Walker, Workspace,
 };
 use std::fmt::Debug;
 
-/// Faulty rules, with the kind, the number and the place of their refusals.
-fn faulty_rules() -> Vec<(Vec<u8>, Kind, u64, u64)> {
+/// Faulty rules, with their refusals and the numbers of these.
+fn faulty_rules() -> Vec<(Vec<u8>, Refusal, u64)> {
     let heavy = joined_left(0x16, &ANY, 64);
     vec![
-        (vec![0x17; 256], Kind::RuleTooLong, 1, 0),
-        (vec![], Kind::RuleEnded, 2, 0),
-        (vec![0x10, 0x01], Kind::RuleEnded, 2, 2),
-        (vec![0x12, 0x19], Kind::UnknownKind, 3, 1),
-        (vec![0x02], Kind::WrongSort, 4, 0),
-        (vec![0x10, 0x05, 0x02, 0x11], Kind::WrongSort, 4, 3),
-        (vec![0x10, 0x01, 0x06], Kind::UnknownProposition, 5, 2),
-        (vec![0x11, 0x11], Kind::BytesAfterRule, 6, 1),
-        ([&heavy[..], &[0]].concat(), Kind::BytesAfterRule, 6, 191),
-        (heavy, Kind::TooHeavy, 7, 0),
+        (vec![0x17; 256], Refusal::RuleTooLong { place: 0 }, 1),
+        (vec![], Refusal::RuleEnded { place: 0 }, 2),
+        (vec![0x10, 0x01], Refusal::RuleEnded { place: 2 }, 2),
+        (vec![0x12, 0x19], Refusal::UnknownKind { place: 1 }, 3),
+        (vec![0x02], Refusal::WrongSort { place: 0 }, 4),
+        (
+            vec![0x10, 0x05, 0x02, 0x11],
+            Refusal::WrongSort { place: 3 },
+            4,
+        ),
+        (
+            vec![0x10, 0x01, 0x06],
+            Refusal::UnknownProposition { place: 2 },
+            5,
+        ),
+        (vec![0x11, 0x11], Refusal::BytesAfterRule { place: 1 }, 6),
+        (
+            [&heavy[..], &[0]].concat(),
+            Refusal::BytesAfterRule { place: 191 },
+            6,
+        ),
+        (heavy, Refusal::TooHeavy { place: 0 }, 7),
     ]
 }
 
 /// Faulty models in the same way.
-fn faulty_models() -> Vec<(Vec<u8>, Kind, u64, u64)> {
+fn faulty_models() -> Vec<(Vec<u8>, Refusal, u64)> {
     let full = state(0, 0, 0).repeat(64);
     let good = state(5, 1, 1);
     vec![
-        ([&full[..], &[0x20]].concat(), Kind::TooManyStates, 11, 704),
-        ([&good[..], &[0x21]].concat(), Kind::NotAState, 12, 11),
-        (vec![0x20], Kind::StateCutShort, 13, 1),
-        (good[..10].to_vec(), Kind::StateCutShort, 13, 10),
-        (vec![0x20, 0x40], Kind::StateLetter, 14, 1),
-        (vec![0x20, 0x00, 0x02], Kind::StateFlag, 15, 2),
+        (
+            [&full[..], &[0x20]].concat(),
+            Refusal::TooManyStates { place: 704 },
+            11,
+        ),
+        (
+            [&good[..], &[0x21]].concat(),
+            Refusal::NotAState { place: 11 },
+            12,
+        ),
+        (vec![0x20], Refusal::StateCutShort { place: 1 }, 13),
+        (
+            good[..10].to_vec(),
+            Refusal::StateCutShort { place: 10 },
+            13,
+        ),
+        (vec![0x20, 0x40], Refusal::StateLetter { place: 1 }, 14),
+        (vec![0x20, 0x00, 0x02], Refusal::StateFlag { place: 2 }, 15),
         (
             [&good[..], &state(0, 0, 0b100)].concat(),
-            Kind::MissingSuccessor,
+            Refusal::MissingSuccessor { place: 14 },
             16,
-            14,
         ),
     ]
 }
 
-fn refused<T: Debug>(answer: Result<T, Refusal>, kind: Kind, number: u64, place: u64) {
+fn refused<T: Debug>(answer: Result<T, Refusal>, expected: Refusal, number: u64) {
     let refusal = answer.unwrap_err();
-    assert_eq!(refusal.kind(), kind);
-    assert_eq!((refusal.number(), refusal.place()), (number, place));
-    let said = refusal.to_string();
-    assert!(said.starts_with(&format!("refused {number} at {place}: ")));
+    assert_eq!(refusal, expected);
+    assert_eq!(refusal.number(), number);
+    let begins = format!("refused {number} at {}: ", expected.place());
+    assert!(refusal.to_string().starts_with(&begins));
 }
 
 #[test]
 fn faulty_rules_are_refused_by_every_call_that_reads_one() {
-    for (rule, kind, number, place) in faulty_rules() {
-        refused(read_rule(&rule), kind, number, place);
-        refused(Table::build(&rule), kind, number, place);
-        refused(build_into(&rule, &mut []), kind, number, place);
-        refused(judge(&rule, &[64; 17]), kind, number, place);
+    for (rule, expected, number) in faulty_rules() {
+        refused(read_rule(&rule), expected, number);
+        refused(Table::build(&rule), expected, number);
+        refused(build_into(&rule, &mut []), expected, number);
+        refused(judge(&rule, &[64; 17]), expected, number);
         let mut workspace = Workspace::new();
-        refused(workspace.search(&rule, &[0]), kind, number, place);
+        refused(workspace.search(&rule, &[0]), expected, number);
     }
 }
 
 #[test]
 fn faulty_models_are_refused_by_every_call_that_reads_one() {
-    for (model, kind, number, place) in faulty_models() {
-        refused(read_model(&model), kind, number, place);
+    for (model, expected, number) in faulty_models() {
+        refused(read_model(&model), expected, number);
         let mut workspace = Workspace::new();
-        refused(workspace.search(&RULE, &model), kind, number, place);
+        refused(workspace.search(&RULE, &model), expected, number);
     }
 }
 
 #[test]
 fn refusals_are_printed_as_lines() {
-    for (rule, _, number, place) in faulty_rules() {
+    for (rule, expected, number) in faulty_rules() {
         if rule.len() < 256 {
-            let line = format!("refused {number} at {place}");
+            let line = format!("refused {number} at {}", expected.place());
             assert_eq!(rulecheck(&line_input(&rule, &[])), line);
         }
     }
-    for (model, _, number, place) in faulty_models() {
-        let line = format!("refused {number} at {place}");
+    for (model, expected, number) in faulty_models() {
+        let line = format!("refused {number} at {}", expected.place());
         assert_eq!(rulecheck(&line_input(&RULE, &model)), line);
     }
 }
@@ -92,8 +115,16 @@ fn refusals_are_printed_as_lines() {
 #[test]
 fn the_judge_takes_sixteen_letters_below_64() {
     assert!(!judge(&P0, &[1; 16]).unwrap());
-    refused(judge(&P0, &[64; 17]), Kind::TooManyLetters, 23, 0);
-    refused(judge(&P0, &[0, 63, 64, 255]), Kind::EventLetter, 22, 2);
+    refused(
+        judge(&P0, &[64; 17]),
+        Refusal::TooManyLetters { place: 0 },
+        23,
+    );
+    refused(
+        judge(&P0, &[0, 63, 64, 255]),
+        Refusal::EventLetter { place: 2 },
+        22,
+    );
 }
 
 #[test]
@@ -101,11 +132,19 @@ fn a_refused_step_leaves_the_walker() {
     let table = Table::build(&RULE).unwrap();
     let mut walker = Walker::at(0b1010, table.finals());
     let before = walker;
-    refused(walker.advance(&table, 64), Kind::EventLetter, 22, 0);
+    refused(
+        walker.advance(&table, 64),
+        Refusal::EventLetter { place: 0 },
+        22,
+    );
     assert_eq!(walker, before);
     let short = &table.entries()[..4095];
-    refused(walker.advance(short, 64), Kind::ShortSlice, 21, 0);
-    refused(walker.step([], 0), Kind::ShortSlice, 21, 0);
+    refused(
+        walker.advance(short, 64),
+        Refusal::ShortSlice { place: 0 },
+        21,
+    );
+    refused(walker.step([], 0), Refusal::ShortSlice { place: 0 }, 21);
     assert_eq!(walker, before);
 }
 

@@ -3,7 +3,7 @@
 use crate::inputs::{three_states, two_of_three, RULE};
 use cases::line_input;
 use gongcollar::{build_into, judge, raw, rulecheck_into, search_into};
-use gongcollar::{Kind, Lent, Table, Workspace, ENTRIES, LINE_BYTES};
+use gongcollar::{Lent, Refusal, Table, Workspace, ENTRIES, LINE_BYTES};
 
 /// What stands in a lent slice before the call.
 const JUNK: u8 = 0x77;
@@ -69,7 +69,7 @@ fn a_refused_build_changes_nothing() {
     for length in SHORT {
         let mut lent = vec![JUNK.into(); length];
         let refusal = build_into(&RULE, &mut lent).unwrap_err();
-        assert_eq!((refusal.kind(), refusal.place()), (Kind::ShortSlice, 0));
+        assert_eq!(refusal, Refusal::ShortSlice { place: 0 });
         assert!(junk(&lent));
     }
     let mut lent = vec![JUNK.into(); LONG];
@@ -108,7 +108,7 @@ fn a_search_with_a_short_slice_changes_nothing() {
             lengths[which] = short;
             let mut slices = Slices::of(lengths);
             let refusal = search_into(&RULE, &three_states(), slices.lent()).unwrap_err();
-            assert_eq!((refusal.kind(), refusal.place()), (Kind::ShortSlice, 0));
+            assert_eq!(refusal, Refusal::ShortSlice { place: 0 });
             assert!(slices.untouched());
         }
     }
@@ -128,7 +128,7 @@ fn the_same_bytes_may_be_read_twice() {
     let bytes = [0x11];
     assert_eq!(judge(&bytes, &bytes), Ok(false));
     let refusal = Workspace::new().search(&bytes, &bytes).unwrap_err();
-    assert_eq!((refusal.kind(), refusal.place()), (Kind::NotAState, 0));
+    assert_eq!(refusal, Refusal::NotAState { place: 0 });
 }
 
 #[test]

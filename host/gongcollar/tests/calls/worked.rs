@@ -4,7 +4,7 @@ use crate::inputs::{pair, state, three_states, two_of_three, P1, RULE};
 use cases::hostile::joined_left;
 use cases::rules::P0;
 use cases::{heavy, line_input, models};
-use gongcollar::{judge, read_model, read_rule, rulecheck, Kind, Table, Walker, Workspace};
+use gongcollar::{judge, read_model, read_rule, rulecheck, Refusal, Table, Walker, Workspace};
 
 const LABEL_P0: u64 = 0xAAAA_AAAA_AAAA_AAAA;
 const LABEL_P1: u64 = 0xCCCC_CCCC_CCCC_CCCC;
@@ -84,7 +84,7 @@ fn weights_at_the_limit() {
     let row = joined_left(0x12, &P0, 32);
     assert_eq!(read_rule(&row).unwrap().weight, 64);
     let refusal = read_rule(&one_too_heavy()).unwrap_err();
-    assert_eq!((refusal.kind(), refusal.place()), (Kind::TooHeavy, 0));
+    assert_eq!(refusal, Refusal::TooHeavy { place: 0 });
 }
 
 #[test]
