@@ -6,7 +6,7 @@
 use std::borrow::Cow;
 
 // Declared from the repository's include/gongcollar.h, the one place that hosts declare from: a change there is
-// made here too, and nowhere else.
+// made here too, and nowhere else; a test holds the two together.
 
 /// What `gc_read_rule` answers.
 #[repr(C)]

@@ -1,5 +1,6 @@
-//! The calls from outside: the worked examples, every refusal, and what becomes of lent slices.
+//! The calls from outside: the worked examples, every refusal, what becomes of lent slices, and the header.
 
+mod header;
 mod inputs;
 mod refusals;
 mod slices;
