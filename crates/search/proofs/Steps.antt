@@ -1,15 +1,15 @@
 -- Laws of `Step`: nothing, one place, one after the other. Assumes nothing.
-use Prim.Native.Nat.{ℕ, suc, _+_, _≤_, _<_}
+use Prim.Native.Nat.{ℕ, suc, _+_, _*_, _≤_, _<_}
 use mathlib.Core.Path.{_≡_, refl, ap, sym, subst, _∙_}
 use mathlib.Core.Logic.{_≢_, _↔_, _⊎_, inl, inr, ⊎-elim}
 use mathlib.Core.List.{List}
 use native.Mathlib.Omega.{arith}
 use native.Mathlib.Decide.{ℕ-discrete}
-use lib.ListN.{length, getD, set}
+use lib.ListN.{length, getD, set, length-set}
 use lib.Seq.{getD-set-same, getD-set-other}
-use Rattle.tables.proofs.Beyonds.{beyond-none, beyond-next, beyond-then}
+use Rattle.tables.specs.Beyond.{Beyond}
 use Rattle.search.specs.Right.{Count, none, counted, passed}
-use Rattle.search.specs.Passes.{Nz, Step, Below}
+use Rattle.search.specs.Passes.{Nz, Step, Below, At}
 use Rattle.search.proofs.Ranges.{below-older, below-newest, below-split}
 use Rattle.search.proofs.Tally.{count-map}
 
@@ -29,21 +29,21 @@ count-add {P} {Q} at (passed {n = n} {c = c} p a) l no-at q f = go (ℕ-discrete
 
 pub step-none : (j : ℕ) (a : List ℕ) (S : ℕ → Type 0) → ((i : ℕ) → S i → getD a i 0 ≢ 0) → Step j a a S 0
 step-none j a S f = record {
+  size = refl;
   only = λ i. inl refl;
   all = f;
   tally = λ k x. subst (λ (n : ℕ). Count (Nz a) 4096 n) (omega arith) x;
   quiet = λ e. refl;
-  beyond = beyond-none 4096 a;
 }
 
 pub step-one : (j : ℕ) (a : List ℕ) (at : ℕ) → at < 4096 → 4096 ≤ length a → getD a at 0 ≡ 0 → Step j a (set a at (suc j)) (λ i. i ≡ at) 1
 step-one j a at l h z = record {
+  size = length-set a at (suc j);
   only = λ i. kept i (ℕ-discrete i at);
   all = λ i e. new i e;
   tally = λ k x. subst (λ (n : ℕ). Count (Nz (set a at (suc j))) 4096 n) (omega arith)
       (count-add at x l (λ f. f z) (new at refl) same);
   quiet = λ e. absurd (omega arith);
-  beyond = beyond-next at (suc j) (beyond-none 4096 a) l;
 }
   where
     new : (i : ℕ) → i ≡ at → getD (set a at (suc j)) i 0 ≢ 0
@@ -61,11 +61,11 @@ step-one j a at l h z = record {
 pub step-then : {j : ℕ} {a b d : List ℕ} {S S′ : ℕ → Type 0} {c c′ : ℕ} → Step j a b S c → Step j b d S′ c′ → (U : ℕ → Type 0)
     → ((i : ℕ) → S i → U i) → ((i : ℕ) → S′ i → U i) → ((i : ℕ) → U i → S i ⊎ S′ i) → Step j a d U (c + c′)
 step-then {j} {a} {b} {d} {S} {S′} {c} {c′} x y U f g h = record {
+  size = y .size ∙ x .size;
   only = λ i. either i (x .only i) (y .only i);
   all = λ i u. ⊎-elim (λ s. stays i (x .all i s) (y .only i)) (λ s. y .all i s) (h i u);
   tally = λ k n. subst (λ (z : ℕ). Count (Nz d) 4096 z) (omega arith) (y .tally (k + c) (x .tally k n));
   quiet = λ e. y .quiet (omega arith) ∙ x .quiet (omega arith);
-  beyond = beyond-then (x .beyond) (y .beyond);
 }
   where
     stays : (i : ℕ) → getD b i 0 ≢ 0 → (getD d i 0 ≡ getD b i 0) ⊎ (S′ i × (getD b i 0 ≡ 0) × (getD d i 0 ≡ suc j)) → getD d i 0 ≢ 0
@@ -81,12 +81,19 @@ step-then {j} {a} {b} {d} {S} {S′} {c} {c′} x y U f g h = record {
 
 pub step-same : {j : ℕ} {a b : List ℕ} {S : ℕ → Type 0} {c : ℕ} → Step j a b S c → (U : ℕ → Type 0) → ((i : ℕ) → S i → U i) → ((i : ℕ) → U i → S i) → Step j a b U c
 step-same {j} {a} {b} {S} x U f g = record {
+  size = x .size;
   only = λ i. ⊎-elim (λ e. inl e) (λ e. inr (f i (e .0), e .1, e .2)) (x .only i);
   all = λ i u. x .all i (g i u);
   tally = x .tally;
   quiet = x .quiet;
-  beyond = x .beyond;
 }
+
+-- a step that marks rows below n alone leaves what stands past them
+pub step-rows : {j : ℕ} {a b : List ℕ} {S : ℕ → Type 0} {c : ℕ} (n : ℕ) → Step j a b S c → ((i : ℕ) → S i → i < 64 * n) → Beyond (64 * n) a b
+step-rows n x f = record { size = x .size; rest = λ i h. ⊎-elim (λ e. e) (λ e. absurd (let l = f i (e .0) in omega arith)) (x .only i) }
+
+pub in-rows : {P : ℕ → Type 0} {t n k i : ℕ} → k ≤ 64 → t < n → Below (At P t) k i → i < 64 * n
+in-rows l h x = let p = x .holds .place in let b = x .below in omega arith
 
 -- a loop that goes up by one
 pub below-none : (j : ℕ) (a : List ℕ) (S : ℕ → ℕ → Type 0) → Step j a a (Below S 0) 0

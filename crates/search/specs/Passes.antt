@@ -7,7 +7,6 @@ use mathlib.Core.List.{List}
 use lib.Dec.{T}
 use lib.ListN.{length, getD}
 use Rattle.bits.specs.Word.{bit, insert}
-use Rattle.tables.specs.Beyond.{Beyond}
 use Rattle.tables.specs.Table.{Table, Accepts}
 use Rattle.models.specs.Model.{Model, Walk, spelled}
 use Rattle.search.specs.Right.{Count, Before}
@@ -61,11 +60,11 @@ Nz l i = getD l i 0 ≢ 0
 
 -- from the marks a to the marks b: of the places in S those that were 0 are marked j + 1, and there are c of them; nothing else changes
 pub record Step (j : ℕ) (a b : List ℕ) (S : ℕ → Type 0) (c : ℕ) : Type 0 where
+  pub size : length b ≡ length a
   pub only : (i : ℕ) → (getD b i 0 ≡ getD a i 0) ⊎ (S i × (getD a i 0 ≡ 0) × (getD b i 0 ≡ suc j))
   pub all : (i : ℕ) → S i → getD b i 0 ≢ 0
   pub tally : (k : ℕ) → Count (Nz a) 4096 k → Count (Nz b) 4096 (k + c)
   pub quiet : c ≡ 0 → b ≡ a
-  pub beyond : Beyond 4096 a b
 
 -- the places that some number below k stands for
 pub record Below (S : ℕ → ℕ → Type 0) (k i : ℕ) : Type 0 where

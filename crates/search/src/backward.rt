@@ -1,6 +1,6 @@
 // The backward pass: of the marked pairs, which lie on a shortest match.
 ghost use mathlib.Core.Path.{_≡_};
-ghost use Prim.Native.Nat.{ℕ, _+_, _<_, _≤_};
+ghost use Prim.Native.Nat.{ℕ, _+_, _*_, _<_, _≤_};
 ghost use lib.Dec.{T};
 ghost use lib.ListN.{length, getD};
 ghost use Rattle.bits.specs.Word.{bit};
@@ -130,7 +130,7 @@ pub fn backward(
     level: u16,
 )
     requires { ⌜ LentTable (now table) (sizes .weight) × LentLetters (now letters) (sizes .states) × (sizes .states ≤ length (now successors)) × (4096 ≤ length (now marks)) × (4096 ≤ length (now useful)) × (level < 4096) × ((i : ℕ) → i < 4096 → getD (now useful) i 0 ≡ 0) × ((c : ℕ) × Marked (modelIn sizes (now letters) (now successors)) (tableIn sizes (now table)) level c (now marks)) ⌝ }
-    ensures { λ _. ⌜ Beyond 4096 (now (useful .entry)) (now (useful .exit)) × Useful (modelIn sizes (now (letters .entry)) (now (successors .entry))) (tableIn sizes (now (table .entry))) level (view (now (marks .entry))) 1 (view (now (useful .exit))) ⌝ }
+    ensures { λ _. ⌜ Beyond (64 * sizes .states) (now (useful .entry)) (now (useful .exit)) × Useful (modelIn sizes (now (letters .entry)) (now (successors .entry))) (tableIn sizes (now (table .entry))) level (view (now (marks .entry))) 1 (view (now (useful .exit))) ⌝ }
 {
     seed(marks, useful, sizes, level);
     let mut at = level;

@@ -1,6 +1,6 @@
 // The forward pass: marks each pair with the length of the shortest run that reaches it, level by level.
 ghost use mathlib.Core.Path.{_≡_};
-ghost use Prim.Native.Nat.{ℕ, _<_, _≤_};
+ghost use Prim.Native.Nat.{ℕ, _*_, _<_, _≤_};
 ghost use lib.Dec.{T};
 ghost use lib.ListN.{length, getD};
 ghost use Rattle.bits.specs.Word.{bit};
@@ -99,7 +99,7 @@ pub fn forward(
     sizes: Sizes,
 ) -> Outcome
     requires { ⌜ LentTable (now table) (sizes .weight) × LentLetters (now letters) (sizes .states) × (sizes .states ≤ length (now successors)) × (4096 ≤ length (now marks)) × ((i : ℕ) → i < 4096 → getD (now marks) i 0 ≡ 0) ⌝ }
-    ensures { λ r. ⌜ Beyond 4096 (now (marks .entry)) (now (marks .exit)) × Ended (modelIn sizes (now (letters .entry)) (now (successors .entry))) (tableIn sizes (now (table .entry))) (r .found) (r .level) (r .count) (now (marks .exit)) ⌝ }
+    ensures { λ r. ⌜ Beyond (64 * sizes .states) (now (marks .entry)) (now (marks .exit)) × Ended (modelIn sizes (now (letters .entry)) (now (successors .entry))) (tableIn sizes (now (table .entry))) (r .found) (r .level) (r .count) (now (marks .exit)) ⌝ }
 {
     let mut level: u16 = 1;
     let mut fresh = push_all(

@@ -1,6 +1,6 @@
 // The search over any table that serves a rule: a shortest match of the model, the first in state order, and the pair count.
 ghost use mathlib.Core.Path.{_≡_};
-ghost use Prim.Native.Nat.{ℕ, _<_, _≤_};
+ghost use Prim.Native.Nat.{ℕ, _*_, _<_, _≤_};
 ghost use lib.ListN.{length, getD};
 ghost use Rattle.tables.specs.Beyond.{Beyond};
 ghost use Rattle.search.specs.Lent.{modelIn, tableIn, LentTable, LentLetters};
@@ -9,6 +9,8 @@ use crate::backward::backward;
 use crate::choose::pick;
 use crate::forward::forward;
 use crate::marks::clear;
+use crate::shape::PAIRS;
+use crate::shape::ROW;
 use crate::shape::Sizes;
 
 // What a search answers.
@@ -30,7 +32,7 @@ fn passes(
     sizes: Sizes,
 ) -> Searched
     requires { ⌜ LentTable (now table) (sizes .weight) × LentLetters (now letters) (sizes .states) × (sizes .states ≤ length (now successors)) × (4096 ≤ length (now marks)) × (4096 ≤ length (now useful)) × (4096 ≤ length (now run)) × ((i : ℕ) → i < 4096 → getD (now marks) i 0 ≡ 0) × ((i : ℕ) → i < 4096 → getD (now useful) i 0 ≡ 0) ⌝ }
-    ensures { λ r. ⌜ Answers (modelIn sizes (now (letters .entry)) (now (successors .entry))) (tableIn sizes (now (table .entry))) r (now (run .entry)) (now (run .exit)) × Beyond 4096 (now (marks .entry)) (now (marks .exit)) × Beyond 4096 (now (useful .entry)) (now (useful .exit)) ⌝ }
+    ensures { λ r. ⌜ Answers (modelIn sizes (now (letters .entry)) (now (successors .entry))) (tableIn sizes (now (table .entry))) r (now (run .entry)) (now (run .exit)) × Beyond (64 * sizes .states) (now (marks .entry)) (now (marks .exit)) × Beyond (64 * sizes .states) (now (useful .entry)) (now (useful .exit)) ⌝ }
 {
     let outcome = forward(table, letters, successors, marks, sizes);
     let pairs = outcome.count;
@@ -57,10 +59,12 @@ pub fn search_table(
     requires { ⌜ LentTable (now table) (sizes .weight) × LentLetters (now letters) (sizes .states) × (sizes .states ≤ length (now successors)) × (4096 ≤ length (now marks)) × (4096 ≤ length (now useful)) × (4096 ≤ length (now run)) ⌝ }
     ensures { λ r. ⌜ SearchedTable (modelIn sizes (now (letters .entry)) (now (successors .entry))) (tableIn sizes (now (table .entry))) r (now (marks .entry)) (now (marks .exit)) (now (useful .entry)) (now (useful .exit)) (now (run .entry)) (now (run .exit)) ⌝ }
 {
-    clear(marks);
-    clear(useful);
+    clear(marks, PAIRS);
+    clear(useful, PAIRS);
     let answer = passes(table, letters, successors, marks, useful, run, sizes);
-    clear(marks);
-    clear(useful);
+    // The passes mark no pair beyond the rows of the model's states.
+    let used = ROW * sizes.states;
+    clear(marks, used);
+    clear(useful, used);
     answer
 }

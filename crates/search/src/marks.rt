@@ -9,7 +9,6 @@ ghost use Rattle.tables.specs.Table.{finalOf};
 ghost use Rattle.search.specs.Lent.{Cleared};
 ghost use Rattle.search.specs.Passes.{Members, Under, OnLevel, Kept, Step, Below, At, FinalIn, FinalOn};
 use crate::sets::add_if;
-use crate::shape::PAIRS;
 use crate::shape::ROW;
 use crate::shape::Sizes;
 
@@ -106,12 +105,12 @@ pub fn final_all(marks: &[u16], sizes: Sizes, level: u16) -> bool
     false
 }
 
-// Sets every mark to 0.
-pub fn clear(marks: &mut [u16])
-    requires { ⌜ 4096 ≤ length (now marks) ⌝ }
-    ensures { λ _. ⌜ Cleared 4096 (now (marks .entry)) (now (marks .exit)) ⌝ }
+// Sets the first n marks to 0.
+pub fn clear(marks: &mut [u16], n: usize)
+    requires { ⌜ n ≤ length (now marks) ⌝ }
+    ensures { λ _. ⌜ Cleared n (now (marks .entry)) (now (marks .exit)) ⌝ }
 {
-    for i in 0..PAIRS {
+    for i in 0..n {
         marks[i] = 0;
     }
 }

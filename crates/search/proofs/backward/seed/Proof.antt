@@ -34,7 +34,7 @@ loop-less : tie.Need-loop-less Inv-loop μ-loop
 loop-less c = search needs
 
 loop-again : tie.Need-loop-again Inv-loop μ-loop
-loop-again c = let z = c .before .before .before .before .before .before .before .before .before .before in let l = c .before .before .before .before .before .before .before .loop in let e = c .before .before .mark-row .ensures in (omega arith, e .1 .beyond .size ∙ l .inv .1, (l .inv .2 .0 + c .before .before .mark-row .result, below-next (l .inv .2 .1) (seeded-row (z .args .sizes .weight) (z .args .sizes .finals) (z .args .marks .now) _ (z .args .level) (l .s) (members-and (c .before .before .before .before .before .on-level .ensures) (members-bits (z .args .sizes .finals))) (e .1))))
+loop-again c = let z = c .before .before .before .before .before .before .before .before .before .before in let l = c .before .before .before .before .before .before .before .loop in let e = c .before .before .mark-row .ensures in (omega arith, e .1 .size ∙ l .inv .1, (l .inv .2 .0 + c .before .before .mark-row .result, below-next (l .inv .2 .1) (seeded-row (z .args .sizes .weight) (z .args .sizes .finals) (z .args .marks .now) _ (z .args .level) (l .s) (members-and (c .before .before .before .before .before .on-level .ensures) (members-bits (z .args .sizes .finals))) (e .1))))
 
 same-length : tie.Need-same-length Inv-loop μ-loop
 same-length c = c .before .loop .inv .1

@@ -31,7 +31,7 @@ loop-less : tie.Need-loop-less Inv-loop μ-loop
 loop-less c = search needs
 
 loop-again : tie.Need-loop-again Inv-loop μ-loop
-loop-again c = let z = c .before .before .before .before .before .before .before .before .before .before .before in let l = c .before .before .before .before .before .loop in let e = c .before .before .settle-row .ensures in (omega arith, e .1 .beyond .size ∙ l .inv .1, (l .inv .2 .0 + e .0, below-next (l .inv .2 .1) (settled-then (tableOf (z .args .table .now) (z .args .sizes .weight) 0) (z .args .letters .now) (z .args .sizes .states) (z .args .successors .now) (z .args .marks .now) (z .args .level) (l .s) (l .inv .2 .1) (e .1))))
+loop-again c = let z = c .before .before .before .before .before .before .before .before .before .before .before in let l = c .before .before .before .before .before .loop in let e = c .before .before .settle-row .ensures in (omega arith, e .1 .size ∙ l .inv .1, (l .inv .2 .0 + e .0, below-next (l .inv .2 .1) (settled-then (tableOf (z .args .table .now) (z .args .sizes .weight) 0) (z .args .letters .now) (z .args .sizes .states) (z .args .successors .now) (z .args .marks .now) (z .args .level) (l .s) (l .inv .2 .1) (e .1))))
 
 same-length : tie.Need-same-length Inv-loop μ-loop
 same-length c = c .before .loop .inv .1

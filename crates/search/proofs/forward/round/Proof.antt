@@ -34,7 +34,7 @@ loop-less : tie.Need-loop-less Inv-loop μ-loop
 loop-less c = search needs
 
 loop-again : tie.Need-loop-again Inv-loop μ-loop
-loop-again c = let z = c .before .before .before .before .before .before .before .before .before .before in let l = c .before .before .before .before .before .loop in let e = c .before .before .push-row .ensures in (omega arith, omega arith, e .1 .beyond .size ∙ l .inv .2, below-next (l .inv .3) (row-then (tableOf (z .args .table .now) (z .args .sizes .weight) 0) (z .args .letters .now) (z .args .successors .now) (z .args .sizes .states) (l .s) (z .pre .4) (l .inv .3) (e .1)))
+loop-again c = let z = c .before .before .before .before .before .before .before .before .before .before in let l = c .before .before .before .before .before .loop in let e = c .before .before .push-row .ensures in (omega arith, omega arith, e .1 .size ∙ l .inv .2, below-next (l .inv .3) (row-then (tableOf (z .args .table .now) (z .args .sizes .weight) 0) (z .args .letters .now) (z .args .successors .now) (z .args .sizes .states) (l .s) (z .pre .4) (l .inv .3) (e .1)))
 
 same-length : tie.Need-same-length Inv-loop μ-loop
 same-length c = search needs

@@ -34,7 +34,7 @@ loop-less : tie.Need-loop-less Inv-loop μ-loop
 loop-less c = search needs
 
 loop-again : tie.Need-loop-again Inv-loop μ-loop
-loop-again c = let l = c .before .before .before .before .before .loop .inv in let e = c .before .before .mark-if .ensures in (omega arith, omega arith, e .1 .beyond .size ∙ l .2, below-next (l .3) (e .1))
+loop-again c = let l = c .before .before .before .before .before .loop .inv in let e = c .before .before .mark-if .ensures in (omega arith, omega arith, e .1 .size ∙ l .2, below-next (l .3) (e .1))
 
 same-length : tie.Need-same-length Inv-loop μ-loop
 same-length c = search needs
