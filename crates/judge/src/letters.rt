@@ -1,7 +1,8 @@
 // Whether the bytes of a sequence are letters.
 ghost use Rattle.judge.specs.Verdict.{ScannedAs};
+use rules::formulas::LETTER_COUNT;
 
-const LAST_LETTER: u8 = 63;
+const LAST_LETTER: u8 = (LETTER_COUNT - 1) as u8;
 
 // The first byte that is no letter, or that there is none.
 pub enum Scanned {

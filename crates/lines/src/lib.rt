@@ -7,6 +7,7 @@ ghost use Rattle.lines.specs.Input.{ruleIn, modelIn};
 ghost use Rattle.lines.specs.Room.{lineRoom};
 ghost use Rattle.lines.specs.Line.{fresh, LineRight};
 use crate::answers::put_answer;
+use tables::TABLE_ENTRIES;
 
 mod text; // words and numbers into a lent slice
 mod answers; // what a search comes to, as text
@@ -14,8 +15,8 @@ mod answers; // what a search comes to, as text
 // The longest run has 4,032 states, so that no line is longer.
 pub const LINE_ROOM: usize = 16384;
 
-// Each slice that a search is lent has this many entries.
-const ENTRIES: usize = 4096;
+// Each slice that a search is lent has as many entries as a table.
+const ENTRIES: usize = TABLE_ENTRIES;
 
 // The number that a byte stands for.
 fn long_of(byte: u8) -> usize

@@ -9,7 +9,7 @@ use crate::kinds::Junction;
 use crate::kinds::Kind;
 use crate::kinds::kind_of;
 
-const LETTER_COUNT: usize = 64;
+pub const LETTER_COUNT: usize = 64;
 
 // Whether a formula holds in the letter, and the place after the formula.
 pub struct Held {

@@ -5,9 +5,9 @@ ghost use lib.Dec.{T};
 ghost use lib.ListN.{length};
 ghost use Rattle.bits.specs.Word.{bit};
 ghost use Rattle.bits.specs.Says.{Says};
-ghost use Rattle.tables.specs.Table.{cell, tableOf};
+ghost use Rattle.tables.specs.Table.{tableOf};
 ghost use Rattle.search.specs.Passes.{Members, addIf, Into, Leads};
-use crate::shape::ROW;
+use tables::step::in_label;
 
 // The set with k in it if `yes`.
 pub fn add_if(set: u64, k: usize, yes: bool) -> u64
@@ -20,15 +20,6 @@ pub fn add_if(set: u64, k: usize, yes: bool) -> u64
     set
 }
 
-// Whether letter x leads from table state q to p.
-fn reads(table: &[u64], q: usize, x: usize, p: usize) -> bool
-    requires { ⌜ (4096 ≤ length (now table)) × (q < 64) × (x < 64) × (p < 64) ⌝ }
-    ensures { λ r. ⌜ r ≡ bit (cell (now (table .entry)) q p) x ⌝ }
-{
-    let label = table[ROW * q + p];
-    bits::has(label, x)
-}
-
 // The table states that letter x leads to from q.
 pub fn entered(table: &[u64], weight: usize, q: usize, x: usize) -> u64
     requires { ⌜ (4096 ≤ length (now table)) × (weight ≤ 64) × (q < weight) × (x < 64) ⌝ }
@@ -36,7 +27,7 @@ pub fn entered(table: &[u64], weight: usize, q: usize, x: usize) -> u64
 {
     let mut set: u64 = 0;
     for p in 0..weight {
-        set = add_if(set, p, reads(table, q, x, p));
+        set = add_if(set, p, in_label(table, q, p, x));
     }
     set
 }

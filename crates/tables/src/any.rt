@@ -11,15 +11,14 @@ ghost use Rattle.tables.specs.Block.{FinalsAt, Built, anyRule};
 ghost use Rattle.tables.specs.Cells.{tableEntries, Put, Clean};
 use crate::cells::put;
 use crate::link::link;
-
-const LETTERS: usize = 64;
+use rules::formulas::LETTER_COUNT;
 
 // The two states at base and base + 1: every letter leads from either to the second.
 pub fn any(t: &mut [u64], base: usize)
     requires { ⌜ (tableEntries ≤ length (now t)) × (base + 2 ≤ 64) ⌝ }
     ensures { λ _. ⌜ Put (now (t .entry)) (now (t .exit)) base (base + 2) (base + 1) (base + 2) (λ p q. all 64) ⌝ }
 {
-    let every = bits::below(LETTERS);
+    let every = bits::below(LETTER_COUNT);
     put(t, base, base + 1, every);
     put(t, base + 1, base + 1, every);
 }

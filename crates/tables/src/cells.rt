@@ -4,11 +4,7 @@ ghost use Prim.Native.Nat.{_+_, _<_, _≤_};
 ghost use lib.ListN.{length};
 ghost use Rattle.tables.specs.Table.{cell};
 ghost use Rattle.tables.specs.Cells.{tableEntries, Put};
-
-// The most states of a table, and the entries that it takes: a row of labels for each state.
-pub const STATES: usize = 64;
-
-pub const TABLE_ENTRIES: usize = 4096;
+use crate::STATES;
 
 // The label from p to q.
 pub fn get(t: &[u64], p: usize, q: usize) -> u64

@@ -4,6 +4,7 @@ use rules::Known;
 use rules::Refusal;
 use rules::RuleAnswer;
 
+pub mod step; // whether a letter leads from one state to another
 mod cells; // the label at a place of the table
 mod clear; // no label
 mod link; // `;` and the repetitions
@@ -14,6 +15,11 @@ mod any; // `true[*]`, for `&`
 mod finals; // sets of final states
 mod shape; // where a rule ends, its weight and its finals
 mod fill; // the labels of a rule, in place
+
+// The most states of a table, and the entries that it takes: a row of labels for each state.
+pub const STATES: usize = 64;
+
+pub const TABLE_ENTRIES: usize = STATES * STATES;
 
 // What building a table comes to.
 pub enum TableAnswer {
@@ -32,10 +38,10 @@ pub fn build(rule: &[u8], table: &mut [u64]) -> TableAnswer
     match rules::read_rule(rule) {
         RuleAnswer::Refused(x) => TableAnswer::RuleRefused(x),
         RuleAnswer::Accepted(known) => {
-            if table.len() < cells::TABLE_ENTRIES {
+            if table.len() < TABLE_ENTRIES {
                 return TableAnswer::ShortTable;
             }
-            clear::clear(table, 0, cells::STATES);
+            clear::clear(table, 0, STATES);
             fill::build_at(rule, 0, table, 0);
             let shape = shape::shape_at(rule, 0);
             TableAnswer::Tabled {

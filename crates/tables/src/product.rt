@@ -4,7 +4,7 @@ ghost use Prim.Native.Nat.{_+_, _*_, _<_, _≤_};
 ghost use lib.ListN.{length};
 ghost use Rattle.tables.specs.Table.{cell};
 ghost use Rattle.tables.specs.Cells.{tableEntries, Put, paired};
-use crate::cells::TABLE_ENTRIES;
+use crate::TABLE_ENTRIES;
 use crate::cells::get;
 use crate::cells::put;
 

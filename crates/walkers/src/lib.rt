@@ -2,20 +2,17 @@
 ghost use mathlib.Core.Path.{_≡_};
 ghost use Prim.Native.Nat.{_<_, _≤_};
 ghost use lib.ListN.{length};
-ghost use Rattle.bits.specs.Word.{bit};
 ghost use Rattle.rules.specs.Definition2.{letterCount};
-ghost use Rattle.tables.specs.Table.{cell};
 ghost use Rattle.tables.specs.Cells.{tableEntries};
 ghost use Rattle.walkers.specs.Steps.{rowOf, advanced, startOf, told, stepOf};
 ghost use Rattle.walkers.specs.Walks.{followOf, ending};
-
-// A lent table has at least this many entries, and this many in a row.
-const TABLE_ENTRIES: usize = 4096;
-
-const STATES: usize = 64;
+use rules::formulas::LETTER_COUNT;
+use tables::STATES;
+use tables::TABLE_ENTRIES;
+use tables::step::in_label;
 
 // A letter is below this.
-const LETTERS: u8 = 64;
+const LETTERS: u8 = LETTER_COUNT as u8;
 
 // The states that it may be in, and the final states.
 pub struct Walker {
@@ -49,14 +46,6 @@ pub enum FollowAnswer {
     Refused(Refusal),
 }
 
-// Whether the letter is in the label from p to q.
-fn in_label(table: &[u64], p: usize, q: usize, letter: u8) -> bool
-    requires { ⌜ (tableEntries ≤ length (now table)) × (p < 64) × (q < 64) × (letter < letterCount) ⌝ }
-    ensures { λ r. ⌜ r ≡ bit (cell (now (table .entry)) p q) letter ⌝ }
-{
-    bits::has(table[STATES * p + q], letter as usize)
-}
-
 // The states that p reaches under the letter.
 fn row(table: &[u64], p: usize, letter: u8) -> u64
     requires { ⌜ (tableEntries ≤ length (now table)) × (p < 64) × (letter < letterCount) ⌝ }
@@ -65,7 +54,7 @@ fn row(table: &[u64], p: usize, letter: u8) -> u64
     let mut reached: u64 = 0;
     let mut q: usize = 0;
     while q < STATES {
-        if in_label(table, p, q, letter) {
+        if in_label(table, p, q, letter as usize) {
             reached |= 1u64 << q;
         }
         q += 1;

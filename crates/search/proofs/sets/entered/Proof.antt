@@ -23,8 +23,8 @@ abbrev μ-loop : tie.MeasureT-loop
 loop-holds : tie.Need-loop-holds Inv-loop μ-loop
 loop-holds c = (omega arith, members-none _)
 
-reads-requires : tie.Need-reads-requires Inv-loop μ-loop
-reads-requires c κs = search needs
+in-label-requires : tie.Need-in-label-requires Inv-loop μ-loop
+in-label-requires c κs = search needs
 
 add-if-requires : tie.Need-add-if-requires Inv-loop μ-loop
 add-if-requires c κs = search needs
@@ -36,7 +36,7 @@ loop-less : tie.Need-loop-less Inv-loop μ-loop
 loop-less c = search needs
 
 loop-again : tie.Need-loop-again Inv-loop μ-loop
-loop-again c = (omega arith, members-turn (c .add-if .ensures) (c .before .before .before .loop .inv .1) (says-T (c .before .reads .ensures)))
+loop-again c = (omega arith, members-turn (c .add-if .ensures) (c .before .before .before .loop .inv .1) (says-T (c .before .in-label .ensures)))
 
 returns : tie.Need-returns Inv-loop μ-loop
 returns c = let a = c .before .before .before .args in entered-end (a .table .now) (a .weight) 0 (a .q) (a .x) (omega arith) (members-end (c .before .loop .inv .1) _ (omega arith) (omega arith))
@@ -48,7 +48,7 @@ entered-spec =
     Inv-loop
     μ-loop
     loop-holds
-    reads-requires
+    in-label-requires
     add-if-requires
     add-p
     loop-less
