@@ -1,5 +1,5 @@
 -- `exports::stepping::stepped_numbers` meets its contract: what is given are the numbers of the case that the answer is. Assumes nothing.
-use mathlib.Core.Path.{ap, _∙_}
+use mathlib.Core.Path.{refl, ap, _∙_}
 use Rattle.walkers.specs.declared.StepAnswer.the-variants.{Refused}
 use Rattle.exports.proofs.Given.{by-case, stepOf}
 use borrow.Author.Needs.{needs}
@@ -28,7 +28,7 @@ refused-requires-2 : tie.Need-refused-requires-2
 refused-requires-2 c κs = search needs
 
 returns : tie.Need-returns
-returns c = cc
+returns c = by-case (stepOf _) (c .before .answer .given .1) refl
 
 returns-2 : tie.Need-returns-2
 returns-2 c = by-case (stepOf _) (c .before .before .before .before .answer2 .given .1 ∙ ap Refused (c .before .enum-told .given .1)) (c .refused .ensures)
