@@ -7,19 +7,23 @@ use mathlib.Core.List.{List}
 use Rattle.rules.specs.declared.kinds.Pair.the-variants.{Then, Overlap}
 use Rattle.rules.specs.Definition1.{Rule, two}
 use Rattle.rules.specs.Weight.{weightOf}
+use Rattle.tables.specs.declared.shape.Shape.{Shape}
 use Rattle.tables.specs.Table.{cell}
 use Rattle.tables.specs.Build.{auto}
 use Rattle.tables.specs.Cells.{In, Put, Clean, linked, overlapped}
-use Rattle.tables.specs.Block.{FinalsAt, Built}
+use Rattle.tables.specs.Block.{FinalsAt, Block, Built, Beside}
+use Rattle.tables.specs.Sets.{Raised}
+use Rattle.tables.specs.Building.{Room, Joins}
 use Rattle.tables.proofs.Labels.{Has, has-linked, overlapped-out, overlapped-in}
 use Rattle.tables.proofs.Thens.{then-aa, then-ab, then-bb}
 use Rattle.tables.proofs.Overlaps.{overlap-aa, overlap-ab, overlap-bb}
 use Rattle.tables.proofs.Language.{good, size-weight}
 use Rattle.rules.proofs.Weighing.{weight-pos}
 use Rattle.tables.proofs.Serving.{step-inside, final-inside}
-use Rattle.tables.proofs.Places.{split, by-cell, by-none, drop-none, block-at, drop-sum, final-at, Beside, beside}
+use Rattle.tables.proofs.FinalSets.{raise-finals}
+use Rattle.tables.proofs.Places.{split, by-cell, by-none, drop-none, block-at, drop-sum, final-at, blank}
 
-module _ (t t₂ t₃ : List ℕ) (base : ℕ) (a b : Rule) (g : ℕ → ℕ → ℕ) (room : base + weightOf a + weightOf b ≤ 64) (s : Beside t t₂ base base a b)
+module _ (t t₂ t₃ : List ℕ) (base : ℕ) (a b : Rule) (g : ℕ → ℕ → ℕ) (room : base + weightOf a + weightOf b ≤ 64) (clean : Clean t base) (s : Beside t t₂ base a b)
     (put : Put t₂ t₃ base (base + weightOf a) (base + weightOf a) (base + weightOf a + weightOf b) g) (S : ℕ → ℕ → ℕ → Type 0)
     (aa : (p x q : ℕ) → q < weightOf a → S p x q ↔ auto a .step p x q)
     (bb : (p x q i j : ℕ) → p ≡ weightOf a + i → q ≡ weightOf a + j → S p x q ↔ auto b .step i x j)
@@ -37,7 +41,7 @@ module _ (t t₂ t₃ : List ℕ) (base : ℕ) (a b : Rule) (g : ℕ → ℕ →
       go (inr (i, d, li)) (inl lq) =
           by-none (cell t₃ (base + p) (base + q)) x
           (put .old (base + p) (base + q) (omega arith) (λ i. omega arith)
-          ∙ s .blank (base + p) (base + q) (omega arith) (omega arith) (omega arith) (omega arith) (λ i. omega arith) (λ i. omega arith))
+          ∙ blank t t₂ base base a b clean s (base + p) (base + q) (omega arith) (omega arith) (omega arith) (omega arith) (λ i. omega arith) (λ i. omega arith))
           (λ k. let z = step-inside a p x q (aa p x q lq .0 k) .lo in omega arith)
       go (inr (i, d, li)) (inr (j, e, lj)) =
           by-cell (cell t₃ (base + p) (base + q)) (cell t₂ (base + p) (base + q)) x (put .old (base + p) (base + q) (omega arith) (λ i. omega arith))
@@ -82,14 +86,11 @@ module _ (a b : Rule) where
       let e' : q ≡ auto a .size + j = omega (arith, size-weight a) in
       rw e' (overlap-ab (auto a) (auto b) (good a) (good b) p x j (omega (arith, size-weight a)))
 
-module _ (t t₁ t₂ t₃ : List ℕ) (base f : ℕ) (a b : Rule) (clean : Clean t base) (room : base + weightOf a + weightOf b ≤ 64)
-    (ba : Built t t₁ base a) (bb : Built t₁ t₂ (base + weightOf a) b) (fa : FinalsAt f base a) where
-  s : Beside t t₂ base base a b
-  s = beside t t₁ t₂ base base a b clean room ba bb
-
+module _ (t t₂ t₃ : List ℕ) (base f : ℕ) (a b : Rule) (clean : Clean t base) (room : base + weightOf a + weightOf b ≤ 64)
+    (s : Beside t t₂ base a b) (fa : FinalsAt f base a) where
   -- in the rectangle there was nothing
   above : (p q j : ℕ) → p < weightOf a → q ≡ weightOf a + j → j < weightOf b → cell t₂ (base + p) (base + q) ≡ 0
-  above p q j lp e lj = s .blank (base + p) (base + q) (omega arith) (omega arith) (omega arith) (omega arith) (λ i. omega arith) (λ i. omega arith)
+  above p q j lp e lj = blank t t₂ base base a b clean s (base + p) (base + q) (omega arith) (omega arith) (omega arith) (omega arith) (λ i. omega arith) (λ i. omega arith)
 
   -- what leaves b's first state
   leaves-b : (q j x : ℕ) → q ≡ weightOf a + j → j < weightOf b → x < 64 → Has (cell t₂ (base + weightOf a) (base + q)) x ↔ auto b .step 0 x j
@@ -107,8 +108,8 @@ module _ (t t₁ t₂ t₃ : List ℕ) (base f : ℕ) (a b : Rule) (clean : Clea
 
   then-block : Put t₂ t₃ base (base + weightOf a) (base + weightOf a) (base + weightOf a + weightOf b) (linked t₂ (base + weightOf a) f) → Built t t₃ base (two Then a b)
   then-block put = record {
-    block = record { label = across t t₂ t₃ base a b (linked t₂ (base + weightOf a) f) room s put (auto (two Then a b) .step) (then-aa-step a b) (then-bb-step a b) then-ab-label };
-    others = across-others t t₂ t₃ base a b (linked t₂ (base + weightOf a) f) room s put (auto (two Then a b) .step) (then-aa-step a b) (then-bb-step a b) then-ab-label;
+    block = record { label = across t t₂ t₃ base a b (linked t₂ (base + weightOf a) f) room clean s put (auto (two Then a b) .step) (then-aa-step a b) (then-bb-step a b) then-ab-label };
+    others = across-others t t₂ t₃ base a b (linked t₂ (base + weightOf a) f) room clean s put (auto (two Then a b) .step) (then-aa-step a b) (then-bb-step a b) then-ab-label;
   }
 
   overlap-out : (p x q j : ℕ) → p < weightOf a → q ≡ weightOf a + j → j < weightOf b → x < 64
@@ -140,15 +141,35 @@ module _ (t t₁ t₂ t₃ : List ℕ) (base f : ℕ) (a b : Rule) (clean : Clea
   overlap-block : Put t₂ t₃ base (base + weightOf a) (base + weightOf a) (base + weightOf a + weightOf b) (overlapped t₂ f base (base + weightOf a) (weightOf a))
       → Built t t₃ base (two Overlap a b)
   overlap-block put = record {
-    block = record { label = across t t₂ t₃ base a b (overlapped t₂ f base (base + weightOf a) (weightOf a)) room s put (auto (two Overlap a b) .step) (overlap-aa-step a b) (overlap-bb-step a b) overlap-ab-label };
-    others = across-others t t₂ t₃ base a b (overlapped t₂ f base (base + weightOf a) (weightOf a)) room s put (auto (two Overlap a b) .step) (overlap-aa-step a b) (overlap-bb-step a b) overlap-ab-label;
+    block = record { label = across t t₂ t₃ base a b (overlapped t₂ f base (base + weightOf a) (weightOf a)) room clean s put (auto (two Overlap a b) .step) (overlap-aa-step a b) (overlap-bb-step a b) overlap-ab-label };
+    others = across-others t t₂ t₃ base a b (overlapped t₂ f base (base + weightOf a) (weightOf a)) room clean s put (auto (two Overlap a b) .step) (overlap-aa-step a b) (overlap-bb-step a b) overlap-ab-label;
   }
 
 -- a at base to mid, b at mid to hi
-module _ (t t₁ t₂ t₃ : List ℕ) (base mid hi f : ℕ) (a b : Rule) (clean : Clean t base) (e : mid ≡ base + weightOf a) (d : hi ≡ mid + weightOf b) (room : hi ≤ 64)
-    (ba : Built t t₁ base a) (bb : Built t₁ t₂ mid b) (fa : FinalsAt f base a) where
+module _ (t t₂ t₃ : List ℕ) (base mid hi f : ℕ) (a b : Rule) (clean : Clean t base) (e : mid ≡ base + weightOf a) (d : hi ≡ mid + weightOf b) (room : hi ≤ 64)
+    (s : Beside t t₂ base a b) (fa : FinalsAt f base a) where
   pub then-built : Put t₂ t₃ base mid mid hi (linked t₂ mid f) → Built t t₃ base (two Then a b)
-  then-built put = then-block t t₁ t₂ t₃ base f a b clean (omega arith) ba (rw e at bb) fa (rw (d, e) at put)
+  then-built put = then-block t t₂ t₃ base f a b clean (omega arith) s fa (rw (d, e) at put)
 
   pub overlap-built : (k : ℕ) → k ≡ weightOf a → Put t₂ t₃ base mid mid hi (overlapped t₂ f base mid k) → Built t t₃ base (two Overlap a b)
-  overlap-built k w put = overlap-block t t₁ t₂ t₃ base f a b clean (omega arith) ba (rw e at bb) fa (rw (w, d, e) at put)
+  overlap-built k w put = overlap-block t t₂ t₃ base f a b clean (omega arith) s fa (rw (w, d, e) at put)
+
+-- the operators, over operands of the shapes a and b
+module _ (a b : Shape) (t t′ : List ℕ) (base f : ℕ) (raised : Raised (a .finals) base f) where
+  pub then-joins : Room Then a b t base → Put t t′ base (base + a .weight) (base + a .weight) (base + a .weight + b .weight) (linked t (base + a .weight) f) → Joins Then a b t t′ base
+  then-joins room put = record {
+    joined = λ t₀ x y d e clean u v s.
+        then-built t₀ t t′ base _ _ f x y clean (omega (arith, u .weighs)) (omega (arith, v .weighs)) (omega (arith, room .square)) s (raise-finals raised (u .final-set)) put;
+  }
+
+  pub overlap-joins : Room Overlap a b t base
+      → Put t t′ base (base + a .weight) (base + a .weight) (base + a .weight + b .weight) (overlapped t f base (base + a .weight) (base + a .weight - base)) → Joins Overlap a b t t′ base
+  overlap-joins room put = record {
+    joined = λ t₀ x y d e clean u v s.
+        overlap-built t₀ t t′ base _ _ f x y clean (omega (arith, u .weighs)) (omega (arith, v .weighs)) (omega (arith, room .square)) s (raise-finals raised (u .final-set))
+        (base + a .weight - base) (omega (arith, u .weighs)) put;
+  }
+
+-- what stands before the second part is the first alone
+pub then-first : (t : List ℕ) (base : ℕ) (a b : Rule) → Block t base (two Then a b) → Block t base a
+then-first t base a b k = record { label = λ p q x hp hq hx. Iff·trans (k .label p q x (omega arith) (omega arith) hx) (then-aa-step a b p x q hq) }

@@ -92,8 +92,8 @@ module _ (t : List ℕ) where
   chosen-right base b p q x l = rw (le-ltb q b l) (has-or (cell t p q) (cell t b q) x)
 
   -- a pair's label
-  pub has-paired : (base m n p q x : ℕ)
-      → Has (paired t base m n p q) x
-      ↔ (Has (cell t (base + (p - base) / n) (base + (q - base) / n)) x × Has (cell t (base + m + (p - base) % n) (base + m + (q - base) % n)) x)
+  pub has-paired : (base n second p q x : ℕ)
+      → Has (paired t base n second p q) x
+      ↔ (Has (cell t ((p - base) / n) ((q - base) / n)) x × Has (cell t (second + (p - base) % n) (second + (q - base) % n)) x)
   unfolding paired
-  has-paired base m n p q x = has-and (cell t (base + (p - base) / n) (base + (q - base) / n)) (cell t (base + m + (p - base) % n) (base + m + (q - base) % n)) x
+  has-paired base n second p q x = has-and (cell t ((p - base) / n) ((q - base) / n)) (cell t (second + (p - base) % n) (second + (q - base) % n)) x

@@ -14,6 +14,7 @@ pub mod Choices
 pub mod Products
 pub mod Turns
 pub mod Singles
+pub mod Withins
 pub mod Wholes
 pub mod Ends
 pub mod Puts

@@ -12,7 +12,7 @@ use Rattle.rules.specs.Weight.{weightOf}
 use Rattle.tables.specs.Table.{cell}
 use Rattle.tables.specs.Build.{auto, UpF}
 use Rattle.tables.specs.Cells.{In, Clean}
-use Rattle.tables.specs.Block.{Block, FinalsAt, Built}
+use Rattle.tables.specs.Block.{Block, FinalsAt, Built, Beside}
 use Rattle.tables.proofs.Labels.{Has, has-none}
 
 -- a state of two operands is one of the first's, or one of the second's moved up
@@ -54,33 +54,32 @@ up-out F k p q e (UpF.up j d f) = let z : j ≡ p = omega arith in rw z at f
 pub final-at : (f base : ℕ) (r : Rule) → FinalsAt f base r → (P p : ℕ) → P ≡ base + p → P < 64 → T (bit f P) ↔ auto r .final p
 final-at f base r h P p e l = (λ t. up-out (auto r .final) base p P e (h .ends P l .0 t), λ t. h .ends P l .1 (UpF.up p e t))
 
-pub record Beside (t t₂ : List ℕ) (base c : ℕ) (a b : Rule) : Type 0 where
-  pub a-block : Block t₂ c a
-  pub b-block : Block t₂ (c + weightOf a) b
-  pub others : (p q : ℕ) → q < 64 → (In c (c + weightOf a) c (c + weightOf a) p q → ⊥)
-      → (In (c + weightOf a) (c + weightOf a + weightOf b) (c + weightOf a) (c + weightOf a + weightOf b) p q → ⊥) → cell t₂ p q ≡ cell t p q
-  pub blank : (p q : ℕ) → base ≤ p → p < 64 → base ≤ q → q < 64 → (In c (c + weightOf a) c (c + weightOf a) p q → ⊥)
-      → (In (c + weightOf a) (c + weightOf a + weightOf b) (c + weightOf a) (c + weightOf a + weightOf b) p q → ⊥) → cell t₂ p q ≡ 0
+-- a place outside both blocks
+pub blank : (t t₂ : List ℕ) (base c : ℕ) (a b : Rule) → Clean t base → Beside t t₂ c a b → (p q : ℕ) → base ≤ p → p < 64 → base ≤ q → q < 64
+    → (In c (c + weightOf a) c (c + weightOf a) p q → ⊥)
+    → (In (c + weightOf a) (c + weightOf a + weightOf b) (c + weightOf a) (c + weightOf a + weightOf b) p q → ⊥) → cell t₂ p q ≡ 0
+blank t t₂ base c a b clean s p q hp lp hq lq u v = s .others p q lq u v ∙ clean .none p q hp lp hq lq
 
-module _ (t t₁ t₂ : List ℕ) (base c : ℕ) (a b : Rule) (clean : Clean t base) (room : c + weightOf a + weightOf b ≤ 64)
-    (ba : Built t t₁ c a) (bb : Built t₁ t₂ (c + weightOf a) b) where
-  abbrev m : ℕ
-  m = weightOf a
+-- the same place, said otherwise
+pub built-at : (t t′ : List ℕ) (c c′ : ℕ) (r : Rule) → c ≡ c′ → Built t t′ c r → Built t t′ c′ r
+built-at t t′ c c′ r e b = rw e at b
 
-  abbrev n : ℕ
-  n = weightOf b
-
-  a-stays : (p q x : ℕ) → p < m → q < m → x < 64 → Has (cell t₂ (c + p) (c + q)) x ↔ auto a .step p x q
+-- one block after the other
+module _ (t t₁ t₂ : List ℕ) (c : ℕ) (a b : Rule) (room : c + weightOf a ≤ 64) (ba : Built t t₁ c a) (bb : Built t₁ t₂ (c + weightOf a) b) where
+  a-stays : (p q x : ℕ) → p < weightOf a → q < weightOf a → x < 64 → Has (cell t₂ (c + p) (c + q)) x ↔ auto a .step p x q
   a-stays p q x hp hq hx =
       by-cell (cell t₂ (c + p) (c + q)) (cell t₁ (c + p) (c + q)) x (bb .others (c + p) (c + q) (omega arith) (λ i. omega arith)) (ba .block .label p q x hp hq hx)
 
-  rest : (p q : ℕ) → q < 64 → (In c (c + m) c (c + m) p q → ⊥) → (In (c + m) (c + m + n) (c + m) (c + m + n) p q → ⊥) → cell t₂ p q ≡ cell t p q
-  rest p q h u v = bb .others p q h v ∙ ba .others p q h u
+  pub beside : Beside t t₂ c a b
+  beside = record { a-block = record { label = a-stays }; b-block = bb .block; others = λ p q h u v. bb .others p q h v ∙ ba .others p q h u }
 
-  pub beside : Beside t t₂ base c a b
-  beside = record {
-    a-block = record { label = a-stays };
-    b-block = bb .block;
-    others = rest;
-    blank = λ p q hp lp hq lq u v. rest p q lq u v ∙ clean .none p q hp lp hq lq;
-  }
+-- past a rule's square there is still no label
+pub clean-on : (t t₁ : List ℕ) (base mid : ℕ) (r : Rule) → Clean t base → Built t t₁ base r → base + weightOf r ≤ mid → Clean t₁ mid
+clean-on t t₁ base mid r c b l = record { none = λ p q h₁ h₂ h₃ h₄. b .others p q h₄ (λ i. omega arith) ∙ c .none p q (omega arith) h₂ (omega arith) h₄ }
+
+-- a square over both blocks hides them
+pub built-over : (t t₂ t₃ : List ℕ) (base c : ℕ) (a b r : Rule) → Beside t t₂ c a b → base ≤ c → c + (weightOf a + weightOf b) ≤ base + weightOf r → Built t₂ t₃ base r → Built t t₃ base r
+built-over t t₂ t₃ base c a b r s l h k = record {
+  block = k .block;
+  others = λ p q m out. k .others p q m out ∙ s .others p q m (λ i. out (omega arith)) (λ i. out (omega arith));
+}

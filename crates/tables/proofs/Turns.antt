@@ -4,14 +4,19 @@ use native.Mathlib.Omega.{arith}
 use mathlib.Core.Path.{_≡_, refl, _∙_}
 use mathlib.Core.Logic.{_⊎_, inl, inr, ⊎-map, _↔_}
 use mathlib.Core.List.{List}
+use Rattle.rules.specs.declared.kinds.Repeat.{Repeat}
 use Rattle.rules.specs.declared.kinds.Repeat.the-variants.{Star, Plus}
 use Rattle.rules.specs.Definition1.{Rule, again}
 use Rattle.rules.specs.Weight.{weightOf}
+use Rattle.tables.specs.declared.shape.Shape.{Shape}
 use Rattle.tables.specs.Table.{cell}
 use Rattle.tables.specs.Build.{auto, PlusStep}
 use Rattle.tables.specs.Cells.{In, Put, linked}
 use Rattle.tables.specs.Block.{FinalsAt, Built}
+use Rattle.tables.specs.Sets.{Raised}
+use Rattle.tables.specs.Building.{Repeats}
 use Rattle.tables.proofs.Labels.{Has, has-linked}
+use Rattle.tables.proofs.FinalSets.{raise-finals}
 use Rattle.tables.proofs.Places.{by-cell, block-at, final-at}
 
 plus-split : (a : Rule) (p x q : ℕ) → PlusStep (auto a) p x q ↔ (auto a .step p x q ⊎ (auto a .final p × auto a .step 0 x q))
@@ -40,18 +45,14 @@ module _ (t t₁ t₂ : List ℕ) (base f : ℕ) (a : Rule) (room : base + weigh
   plus-others : (p q : ℕ) → q < 64 → (In base (base + weightOf a) base (base + weightOf a) p q → ⊥) → cell t₂ p q ≡ cell t p q
   plus-others p q h out = put .old p q h out ∙ ba .others p q h out
 
-  plus-block : Built t t₂ base (again Plus a)
+  again-block : (p : Repeat) → Built t t₂ base (again p a)
   unfolding auto
-  plus-block = record { block = record { label = plus-label }; others = plus-others }
+  again-block Plus = record { block = record { label = plus-label }; others = plus-others }
+  again-block Star = record { block = record { label = plus-label }; others = plus-others }
 
-  star-block : Built t t₂ base (again Star a)
-  unfolding auto
-  star-block = record { block = record { label = plus-label }; others = plus-others }
-
--- a at base to hi
-module _ (t t₁ t₂ : List ℕ) (base hi f : ℕ) (a : Rule) (e : hi ≡ base + weightOf a) (room : hi ≤ 64) (ba : Built t t₁ base a) (fa : FinalsAt f base a) where
-  pub plus-built : Put t₁ t₂ base hi base hi (linked t₁ base f) → Built t t₂ base (again Plus a)
-  plus-built put = plus-block t t₁ t₂ base f a (omega arith) ba fa (rw e at put)
-
-  pub star-built : Put t₁ t₂ base hi base hi (linked t₁ base f) → Built t t₂ base (again Star a)
-  star-built put = star-block t t₁ t₂ base f a (omega arith) ba fa (rw e at put)
+-- over an operand of the shape a
+pub repeats : (a : Shape) (t t′ : List ℕ) (base f : ℕ) → base + a .weight ≤ 64 → Raised (a .finals) base f
+    → Put t t′ base (base + a .weight) base (base + a .weight) (linked t base f) → Repeats a t t′ base
+repeats a t t′ base f room raised put = record {
+  repeated = λ t₀ p x e u b. again-block t₀ t t′ base f x (omega (arith, u .weighs)) b (raise-finals raised (u .final-set)) (rw (u .weighs) at put) p;
+}

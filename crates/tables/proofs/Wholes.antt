@@ -1,32 +1,20 @@
--- `&` is what it is built as, and a block at 0 is the whole table. Assumes nothing.
+-- A block at 0 is the whole table. Assumes nothing.
 use Prim.Native.Nat.{ℕ, _+_, _*_, _<_, _≤_}
 use native.Mathlib.Omega.{arith}
 use mathlib.Core.Path.{_≡_, _∙_}
 use mathlib.Core.Logic.{_⊎_, inl, inr, _↔_}
 use mathlib.Core.List.{List}
 use Rattle.bits.proofs.Laws.{lt-or-ge}
-use Rattle.rules.specs.declared.kinds.Pair.the-variants.{Within}
-use Rattle.rules.specs.Definition1.{Rule, two}
+use Rattle.rules.specs.Definition1.{Rule}
 use Rattle.rules.specs.Weight.{weightOf}
 use Rattle.tables.specs.Table.{cell}
 use Rattle.tables.specs.Build.{auto}
 use Rattle.tables.specs.Cells.{In, Clean}
-use Rattle.tables.specs.Block.{FinalsAt, Built, withinRule}
+use Rattle.tables.specs.Block.{FinalsAt, Built}
 use Rattle.tables.specs.IsTable.{IsTable}
 use Rattle.tables.proofs.Labels.{Has}
-use Rattle.tables.proofs.Language.{within-weight}
 use Rattle.tables.proofs.Serving.{step-inside}
 use Rattle.tables.proofs.Places.{by-none, block-at, final-at}
-
-pub within-built : (t t₁ : List ℕ) (base : ℕ) (a b : Rule) → Built t t₁ base (withinRule a b) → Built t t₁ base (two Within a b)
-unfolding auto
-within-built t t₁ base a b h = record {
-  block = record { label = λ p q x hp hq hx. h .block .label p q x (omega (arith, e)) (omega (arith, e)) hx };
-  others = λ p q l out. h .others p q l (λ i. out (omega (arith, e)));
-}
-  where
-    e : 1 + weightOf a * (weightOf b + 2) + (weightOf a + 2) * weightOf b ≡ 2 * (weightOf a * weightOf b) + 2 * weightOf a + 2 * weightOf b + 1
-    e = within-weight (weightOf a) (weightOf b)
 
 module _ (t t₁ : List ℕ) (f : ℕ) (r : Rule) (clean : Clean t 0) (small : weightOf r ≤ 64) (built : Built t t₁ 0 r) (ends : FinalsAt f 0 r) where
   table-label : (p q x : ℕ) → p < 64 → q < 64 → x < 64 → Has (cell t₁ p q) x ↔ auto r .step p x q

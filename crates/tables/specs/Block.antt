@@ -27,6 +27,13 @@ pub record Built (t t′ : List ℕ) (base : ℕ) (r : Rule) : Type 0 where
   pub block : Block t′ base r
   pub others : (p q : ℕ) → q < 64 → (In base (base + weightOf r) base (base + weightOf r) p q → ⊥) → cell t′ p q ≡ cell t p q
 
+-- t is t₀ with the labels of a in the square at c and those of b in the square behind it, and nowhere else changed
+pub record Beside (t₀ t : List ℕ) (c : ℕ) (a b : Rule) : Type 0 where
+  pub a-block : Block t c a
+  pub b-block : Block t (c + weightOf a) b
+  pub others : (p q : ℕ) → q < 64 → (In c (c + weightOf a) c (c + weightOf a) p q → ⊥)
+      → (In (c + weightOf a) (c + weightOf a + weightOf b) (c + weightOf a) (c + weightOf a + weightOf b) p q → ⊥) → cell t p q ≡ cell t₀ p q
+
 -- true[*], and what `&` is built as
 abbrev pub anyRule : Rule
 anyRule = again Star (letter yea)

@@ -1,15 +1,20 @@
--- What the walk that fills a table asks and promises. Assumes nothing: these are definitions.
-use Prim.Native.Nat.{ℕ, _≤_}
+-- What the walk that fills a table asks and promises, and what each operator does to its operands' blocks. Assumes nothing: these are definitions.
+use Prim.Native.Nat.{ℕ, _+_, _*_, _<_, _≤_}
+use mathlib.Core.Path.{_≡_}
 use mathlib.Core.List.{List}
 use lib.ListN.{length}
 use Rattle.rules.specs.declared.kinds.Pair.{Pair}
-use Rattle.rules.specs.declared.kinds.Pair.the-variants.{Then, Both}
+use Rattle.rules.specs.declared.kinds.Pair.the-variants.{Then, Overlap, Either, Within, Both}
 use Rattle.rules.specs.declared.kinds.Repeat.{Repeat}
 use Rattle.rules.specs.Definition1.{Rule, two, again}
 use Rattle.rules.specs.Places.{RuleAt}
-use Rattle.tables.specs.declared.fill.Operands.{Operands}
+use Rattle.rules.specs.Weight.{weightOf, pairWeight, weightLimit}
+use Rattle.tables.specs.declared.shape.Shape.{Shape}
+use Rattle.tables.specs.declared.product.Pairs.{Pairs}
+use Rattle.tables.specs.declared.fill.Place.{Place}
+use Rattle.tables.specs.declared.fill.Place.the-variants.{Nowhere, From}
 use Rattle.tables.specs.Cells.{tableEntries, Clean}
-use Rattle.tables.specs.Block.{Built, anyRule}
+use Rattle.tables.specs.Block.{Beside, Built}
 use Rattle.tables.specs.Shapes.{ShapeOf}
 
 -- the slice is long enough for a table, and has no label from base on
@@ -17,31 +22,43 @@ pub record Ready (t : List ℕ) (base : ℕ) : Type 0 where
   pub long : tableEntries ≤ length t
   pub clean : Clean t base
 
--- two rules stand one after the other, and these are their places and shapes
-pub record Stand (s : List ℕ) (o : Operands) : Type 0 where
-  pub first-rule : Rule
-  pub second-rule : Rule
-  pub past : ℕ
-  pub first-stands : RuleAt s (o .first) first-rule (o .a .end)
-  pub second-stands : RuleAt s (o .a .end) second-rule past
-  pub first-shape : ShapeOf first-rule (o .a .end) (o .a)
-  pub second-shape : ShapeOf second-rule past (o .b)
-
 -- t′ is t with the labels of whatever rule stands at the place, from base on
 pub record BuiltAt (s : List ℕ) (at : ℕ) (t t′ : List ℕ) (base : ℕ) : Type 0 where
   pub built : (r : Rule) (e : ℕ) → RuleAt s at r e → Built t t′ base r
 
--- the same, of either repetition of it: they have the same labels
-pub record BuiltAgain (s : List ℕ) (at : ℕ) (t t′ : List ℕ) (base : ℕ) : Type 0 where
-  pub built : (p : Repeat) (r : Rule) (e : ℕ) → RuleAt s at r e → Built t t′ base (again p r)
+-- where the operands of an operator stand whose own square is at base: `|` and `&` have a state before them
+abbrev pub operandsFrom : Pair → ℕ → ℕ
+operandsFrom Then base = base
+operandsFrom Overlap base = base
+operandsFrom Either base = base + 1
+operandsFrom Within base = base + 1
+operandsFrom Both base = base
 
--- the same, of the operator over the operands
-pub record BuiltPair (p : Pair) (s : List ℕ) (o : Operands) (t t′ : List ℕ) (base : ℕ) : Type 0 where
-  pub built : (a b : Rule) (e : ℕ) → RuleAt s (o .first) a (o .a .end) → RuleAt s (o .a .end) b e → Built t t′ base (two p a b)
+-- there is room for the operator's square, and for its operands in it
+pub record Room (p : Pair) (a b : Shape) (t : List ℕ) (base : ℕ) : Type 0 where
+  pub long : tableEntries ≤ length t
+  pub first-some : 0 < a .weight
+  pub second-some : 0 < b .weight
+  pub square : base + pairWeight p (a .weight) (b .weight) ≤ weightLimit
+  pub inside : operandsFrom p base + (a .weight + b .weight) ≤ base + pairWeight p (a .weight) (b .weight)
 
--- the same, of the two sides of `&`
-pub record BuiltLeft (s : List ℕ) (o : Operands) (t t′ : List ℕ) (base : ℕ) : Type 0 where
-  pub built : (a b : Rule) (e : ℕ) → RuleAt s (o .first) a (o .a .end) → RuleAt s (o .a .end) b e → Built t t′ base (two Both a (two Then b anyRule))
+-- where t has the blocks of two rules of these shapes, t′ has the operator's
+pub record Joins (p : Pair) (a b : Shape) (t t′ : List ℕ) (base : ℕ) : Type 0 where
+  pub joined : (t₀ : List ℕ) (x y : Rule) (d e : ℕ) → Clean t₀ base → ShapeOf x d a → ShapeOf y e b → Beside t₀ t (operandsFrom p base) x y → Built t₀ t′ base (two p x y)
 
-pub record BuiltRight (s : List ℕ) (o : Operands) (t t′ : List ℕ) (base : ℕ) : Type 0 where
-  pub built : (a b : Rule) (e : ℕ) → RuleAt s (o .first) a (o .a .end) → RuleAt s (o .a .end) b e → Built t t′ base (two Both (two Then a anyRule) b)
+-- where t has the block of a rule of this shape, t′ has that of either repetition
+pub record Repeats (a : Shape) (t t′ : List ℕ) (base : ℕ) : Type 0 where
+  pub repeated : (t₀ : List ℕ) (p : Repeat) (x : Rule) (e : ℕ) → ShapeOf x e a → Built t₀ t base x → Built t₀ t′ base (again p x)
+
+-- where the operands are wanted: in the operator's square, or nowhere, since it has no label
+pub data Placed (p : Pair) (base m n : ℕ) : Place → Type 0 where
+  nowhere : ((t : List ℕ) (x y : Rule) → Clean t base → m ≡ weightOf x → n ≡ weightOf y → Built t t base (two p x y)) → Placed p base m n Nowhere
+  from : (lo : ℕ) → lo ≡ operandsFrom p base → base ≤ lo → lo + (m + n) ≤ base + pairWeight p m n → Placed p base m n (From lo)
+
+-- the pairs stand in a table, and the operands in a copy of so many entries
+pub record PairsFit (s : Pairs) (entries : ℕ) : Type 0 where
+  pub some : 0 < s .n
+  pub square : s .base + s .m * s .n ≤ 64
+  pub beside : s .m ≤ s .second
+  pub last : s .second + s .n ≤ 64
+  pub copied : 64 * (s .second + s .n) ≤ entries

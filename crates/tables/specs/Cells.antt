@@ -46,7 +46,10 @@ overlapped t finals a src (suc k) p q =
 unfoldable pub chosen : List ℕ → ℕ → ℕ → ℕ → ℕ → ℕ
 chosen t base b p q = bitOr (cell t p q) (cond (ltb q b) (cell t (base + 1) q) (cell t b q))
 
--- a pair's label, from a's block of m states at base and b's of n states after it
+-- what stands at from in t, as it stands at to
+unfoldable pub moved : List ℕ → ℕ → ℕ → ℕ → ℕ → ℕ
+moved t from to p q = cell t (from + (p - to)) (from + (q - to))
+
+-- the label of a pair, numbered from base on: of t's block at 0 and of its block at second, which has n states
 unfoldable pub paired : List ℕ → ℕ → ℕ → ℕ → ℕ → ℕ → ℕ
-paired t base m n p q =
-    bitAnd (cell t (base + (p - base) / n) (base + (q - base) / n)) (cell t (base + m + (p - base) % n) (base + m + (q - base) % n))
+paired t base n second p q = bitAnd (cell t ((p - base) / n) ((q - base) / n)) (cell t (second + (p - base) % n) (second + (q - base) % n))

@@ -12,6 +12,7 @@ mod overlap; // `:`
 mod choice; // `|`
 mod product; // `&&`
 mod any; // `true[*]`, for `&`
+mod within; // `&`
 mod finals; // sets of final states
 mod shape; // where a rule ends, its weight and its finals
 mod fill; // the labels of a rule, in place

@@ -3,9 +3,13 @@ ghost use Prim.Native.Nat.{_+_, _-_, _<_, _≤_};
 ghost use lib.ListN.{length};
 ghost use lib.Bits.{bitOr, bitAnd};
 ghost use Rattle.tables.specs.Table.{cell};
+ghost use Rattle.rules.specs.declared.kinds.Pair.the-variants.{Overlap};
 ghost use Rattle.tables.specs.Cells.{tableEntries, Put, overlappedBy, overlapped};
+ghost use Rattle.tables.specs.Building.{Room, Joins};
 use crate::cells::get;
 use crate::cells::put;
+use crate::finals::raise;
+use crate::shape::Shape;
 
 // Row p also gets what the label x lets through of what leaves src, the first state of a block that ends at hi.
 fn unite_part(t: &mut [u64], p: usize, x: u64, src: usize, hi: usize)
@@ -44,7 +48,7 @@ fn overlap_row(t: &mut [u64], p: usize, a: usize, b: usize, hi: usize, finals: u
 }
 
 // Each row of a goes on in b by way of each final of a.
-pub fn overlap(t: &mut [u64], a: usize, b: usize, hi: usize, finals: u64)
+fn overlap_rows(t: &mut [u64], a: usize, b: usize, hi: usize, finals: u64)
     requires { ⌜ (tableEntries ≤ length (now t)) × (a ≤ b) × (b < hi) × (hi ≤ 64) ⌝ }
     ensures { λ _. ⌜ Put (now (t .entry)) (now (t .exit)) a b b hi (overlapped (now (t .entry)) finals a b (b - a)) ⌝ }
 {
@@ -53,4 +57,15 @@ pub fn overlap(t: &mut [u64], a: usize, b: usize, hi: usize, finals: u64)
         overlap_row(t, p, a, b, hi, finals);
         p += 1;
     }
+}
+
+// `:`
+pub fn overlap(t: &mut [u64], base: usize, a: Shape, b: Shape)
+    requires { ⌜ Room Overlap a b (now t) base ⌝ }
+    ensures { λ _. ⌜ Joins Overlap a b (now (t .entry)) (now (t .exit)) base ⌝ }
+{
+    let mid = base + a.weight;
+    let hi = mid + b.weight;
+    let finals = raise(a.finals, base);
+    overlap_rows(t, base, mid, hi, finals);
 }

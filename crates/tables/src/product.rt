@@ -2,81 +2,106 @@
 ghost use mathlib.Core.Path.{_≡_};
 ghost use Prim.Native.Nat.{_+_, _*_, _<_, _≤_};
 ghost use lib.ListN.{length};
-ghost use Rattle.tables.specs.Table.{cell};
-ghost use Rattle.tables.specs.Cells.{tableEntries, Put, paired};
-use crate::TABLE_ENTRIES;
+ghost use Rattle.rules.specs.declared.kinds.Pair.the-variants.{Both};
+ghost use Rattle.tables.specs.Cells.{tableEntries, Put, moved, paired};
+ghost use Rattle.tables.specs.Building.{Room, Joins, PairsFit};
+use crate::STATES;
 use crate::cells::get;
 use crate::cells::put;
+use crate::shape::Shape;
 
-// Row p of t, in the columns lo to hi, becomes that of from.
-fn copy_row(t: &mut [u64], from: &[u64], p: usize, lo: usize, hi: usize)
-    requires { ⌜ (tableEntries ≤ length (now t)) × (tableEntries ≤ length (now from)) × (p < 64) × (lo ≤ hi) × (hi ≤ 64) ⌝ }
-    ensures { λ _. ⌜ Put (now (t .entry)) (now (t .exit)) p (p + 1) lo hi (cell (now (from .entry))) ⌝ }
+// The operands are copied before their pairs take their place. Two operands whose pairs are 64 at most have 34 states at most, if each has two: the copy is
+// a table of so many rows.
+const COPIED_STATES: usize = 34;
+
+pub const COPY_ENTRIES: usize = STATES * COPIED_STATES;
+
+// The pairs that stand at base in the table, of m states and n. The first operand stands in a copy at 0, and the second at `second`.
+pub struct Pairs {
+    pub base: usize,
+    pub m: usize,
+    pub n: usize,
+    pub second: usize,
+}
+
+// Row i of the block of n states at from in t becomes row i of the block at to in copy.
+fn copy_row(copy: &mut [u64], t: &[u64], from: usize, to: usize, n: usize, i: usize)
+    requires { ⌜ (64 * (to + n) ≤ length (now copy)) × (64 * (from + n) ≤ length (now t)) × (to + n ≤ 64) × (from + n ≤ 64) × (i < n) ⌝ }
+    ensures { λ _. ⌜ Put (now (copy .entry)) (now (copy .exit)) (to + i) (to + i + 1) to (to + n) (moved (now (t .entry)) from to) ⌝ }
 {
-    let mut q = lo;
+    let mut j = 0;
+    while j < n {
+        let v = get(t, from + i, from + j);
+        put(copy, to + i, to + j, v);
+        j += 1;
+    }
+}
+
+// The block of n states at from in t, as it stands at to in copy.
+pub fn copy_block(copy: &mut [u64], t: &[u64], from: usize, to: usize, n: usize)
+    requires { ⌜ (64 * (to + n) ≤ length (now copy)) × (64 * (from + n) ≤ length (now t)) × (to + n ≤ 64) × (from + n ≤ 64) ⌝ }
+    ensures { λ _. ⌜ Put (now (copy .entry)) (now (copy .exit)) to (to + n) to (to + n) (moved (now (t .entry)) from to) ⌝ }
+{
+    let mut i = 0;
+    while i < n {
+        copy_row(copy, t, from, to, n, i);
+        i += 1;
+    }
+}
+
+// The label from the pair p to the pair q.
+fn pair_label(copy: &[u64], s: Pairs, p: usize, q: usize) -> u64
+    requires { ⌜ PairsFit s (length (now copy)) × (s .base ≤ p) × (p < s .base + s .m * s .n) × (s .base ≤ q) × (q < s .base + s .m * s .n) ⌝ }
+    ensures { λ r. ⌜ r ≡ paired (now (copy .entry)) (s .base) (s .n) (s .second) p q ⌝ }
+{
+    let n = s.n;
+    let second = s.second;
+    let i = p - s.base;
+    let j = q - s.base;
+    get(copy, i / n, j / n) & get(copy, second + i % n, second + j % n)
+}
+
+// Row p of the pairs.
+fn product_row(t: &mut [u64], copy: &[u64], s: Pairs, p: usize)
+    requires { ⌜ (tableEntries ≤ length (now t)) × PairsFit s (length (now copy)) × (s .base ≤ p) × (p < s .base + s .m * s .n) ⌝ }
+    ensures { λ _. ⌜ Put (now (t .entry)) (now (t .exit)) p (p + 1) (s .base) (s .base + s .m * s .n) (paired (now (copy .entry)) (s .base) (s .n) (s .second)) ⌝ }
+{
+    let hi = s.base + s.m * s.n;
+    let mut q = s.base;
     while q < hi {
-        let v = get(from, p, q);
+        let v = pair_label(copy, s, p, q);
         put(t, p, q, v);
         q += 1;
     }
 }
 
-// The labels among the states lo to hi become those of from.
-fn copy(t: &mut [u64], from: &[u64], lo: usize, hi: usize)
-    requires { ⌜ (tableEntries ≤ length (now t)) × (tableEntries ≤ length (now from)) × (lo ≤ hi) × (hi ≤ 64) ⌝ }
-    ensures { λ _. ⌜ Put (now (t .entry)) (now (t .exit)) lo hi lo hi (cell (now (from .entry))) ⌝ }
+// All rows of the pairs.
+pub fn product(t: &mut [u64], copy: &[u64], s: Pairs)
+    requires { ⌜ (tableEntries ≤ length (now t)) × PairsFit s (length (now copy)) ⌝ }
+    ensures { λ _. ⌜ Put (now (t .entry)) (now (t .exit)) (s .base) (s .base + s .m * s .n) (s .base) (s .base + s .m * s .n) (paired (now (copy .entry)) (s .base) (s .n) (s .second)) ⌝ }
 {
-    let mut p = lo;
+    let hi = s.base + s.m * s.n;
+    let mut p = s.base;
     while p < hi {
-        copy_row(t, from, p, lo, hi);
+        product_row(t, copy, s, p);
         p += 1;
     }
 }
 
-// The label from the pair p to the pair q. The blocks stand in old, a's m states at base and b's n after them.
-fn pair_label(old: &[u64], base: usize, m: usize, n: usize, p: usize, q: usize) -> u64
-    requires { ⌜ (tableEntries ≤ length (now old)) × (0 < n) × (base ≤ p) × (p < base + m * n) × (base ≤ q) × (q < base + m * n) × (base + m + n ≤ 64) ⌝ }
-    ensures { λ r. ⌜ r ≡ paired (now (old .entry)) base m n p q ⌝ }
+// `&&`
+pub fn both(t: &mut [u64], base: usize, a: Shape, b: Shape)
+    requires { ⌜ Room Both a b (now t) base ⌝ }
+    ensures { λ _. ⌜ Joins Both a b (now (t .entry)) (now (t .exit)) base ⌝ }
 {
-    let i = p - base;
-    let j = q - base;
-    get(old, base + i / n, base + j / n) & get(old, base + m + i % n, base + m + j % n)
-}
-
-// Row p of the product.
-fn product_row(t: &mut [u64], old: &[u64], base: usize, m: usize, n: usize, p: usize)
-    requires { ⌜ (tableEntries ≤ length (now t)) × (tableEntries ≤ length (now old)) × (0 < n) × (base ≤ p) × (p < base + m * n) × (base + m * n ≤ 64) × (base + m + n ≤ 64) ⌝ }
-    ensures { λ _. ⌜ Put (now (t .entry)) (now (t .exit)) p (p + 1) base (base + m * n) (paired (now (old .entry)) base m n) ⌝ }
-{
-    let hi = base + m * n;
-    let mut q = base;
-    while q < hi {
-        let v = pair_label(old, base, m, n, p, q);
-        put(t, p, q, v);
-        q += 1;
-    }
-}
-
-// The rows of the product.
-fn product_rows(t: &mut [u64], old: &[u64], base: usize, m: usize, n: usize)
-    requires { ⌜ (tableEntries ≤ length (now t)) × (tableEntries ≤ length (now old)) × (0 < n) × (base + m * n ≤ 64) × (base + m + n ≤ 64) ⌝ }
-    ensures { λ _. ⌜ Put (now (t .entry)) (now (t .exit)) base (base + m * n) base (base + m * n) (paired (now (old .entry)) base m n) ⌝ }
-{
-    let hi = base + m * n;
-    let mut p = base;
-    while p < hi {
-        product_row(t, old, base, m, n, p);
-        p += 1;
-    }
-}
-
-// The product of the blocks at base, m states, and at base + m, n states, in their place. The copy of the two blocks is the builder's only array; no
-// recursive call is made while it stands.
-pub fn product(t: &mut [u64], base: usize, m: usize, n: usize)
-    requires { ⌜ (tableEntries ≤ length (now t)) × (0 < n) × (base + m * n ≤ 64) × (base + m + n ≤ 64) ⌝ }
-    ensures { λ _. ⌜ Put (now (t .entry)) (now (t .exit)) base (base + m * n) base (base + m * n) (paired (now (t .entry)) base m n) ⌝ }
-{
-    let mut old = [0u64; TABLE_ENTRIES];
-    copy(&mut old, t, base, base + m + n);
-    product_rows(t, &old, base, m, n);
+    let m = a.weight;
+    let n = b.weight;
+    let mut copy = [0u64; COPY_ENTRIES];
+    copy_block(&mut copy, t, base, 0, m + n);
+    let pairs = Pairs {
+        base,
+        m,
+        n,
+        second: m,
+    };
+    product(t, &copy, pairs);
 }

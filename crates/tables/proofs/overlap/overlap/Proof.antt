@@ -1,59 +1,30 @@
 -- `tables::overlap::overlap` meets its contract. Assumes nothing.
-use mathlib.Core.Path.{_≡_, refl}
-use Prim.Native.Nat.{_-_, _≤_}
-use native.Mathlib.Omega.{arith}
-use lib.ListN.{length}
-use Rattle.tables.specs.Cells.{Put, overlapped}
-use Rattle.tables.proofs.Puts.{put-as, put-none}
-use Rattle.tables.proofs.Overlapping.{overlap-down}
+use Rattle.tables.proofs.Crossings.{overlap-joins}
+use borrow.Author.Needs.{needs}
 use Rattle.tables.proofs.overlap.overlap.Statement.{statement}
 use Rattle.tables.proofs.overlap.overlap.Tie as tie
 
-abbrev Inv-loop : tie.InvT-loop
-Inv-loop t₀ a b hi finals p₀ t p =
-    (a ≤ p) × (p ≤ b) × (length t ≡ length t₀) × Put t₀ t a p b hi (overlapped t₀ finals a b (b - a))
+add-mid : tie.Need-add-mid
+add-mid c = search needs
 
-abbrev μ-loop : tie.MeasureT-loop
-μ-loop t₀ a b hi finals p₀ t p = b - p
+add-hi : tie.Need-add-hi
+add-hi c = search needs
 
-loop-holds : tie.Need-loop-holds Inv-loop μ-loop
-loop-holds c = (omega arith, omega arith, refl, put-none _ _ _ _ _ _ (omega arith))
+raise-requires : tie.Need-raise-requires
+raise-requires c κs = search needs
 
-overlap-row-requires : tie.Need-overlap-row-requires Inv-loop μ-loop
-overlap-row-requires c κs = omega arith
+overlap-rows-requires : tie.Need-overlap-rows-requires
+overlap-rows-requires c κs = search needs
 
-add-p : tie.Need-add-p Inv-loop μ-loop
-add-p c = omega arith
+same-length : tie.Need-same-length
+same-length c = search needs
 
-loop-less : tie.Need-loop-less Inv-loop μ-loop
-loop-less c = omega arith
-
-loop-again : tie.Need-loop-again Inv-loop μ-loop
-loop-again c =
-    let k = c .before .before in
-    let l = k .before .before .before in (
-      omega arith,
-      omega arith,
-      omega (arith, k .overlap-row .kept .0),
-      overlap-down _ _ _ _ _ _ _ _ (omega arith) (omega arith) (omega arith) (omega arith) (l .loop .inv .3) (k .overlap-row .ensures),
-    )
-
-same-length : tie.Need-same-length Inv-loop μ-loop
-same-length c = c .before .loop .inv .2
-
-returns : tie.Need-returns Inv-loop μ-loop
-returns c = put-as (c .before .loop .inv .3) refl (omega arith) refl refl (λ p q i. refl)
+returns : tie.Need-returns
+returns c =
+    let l = c .before .before in
+    let r = l .before .before in
+    overlap-joins _ _ _ _ _ _ (r .raise .ensures) (r .before .before .before .before .pre) (l .overlap-rows .ensures)
 
 pub overlap-spec : {M : Type 1} → statement M
 overlap-spec =
-    tie.close
-    (tie.spec
-    Inv-loop
-    μ-loop
-    loop-holds
-    overlap-row-requires
-    add-p
-    loop-less
-    loop-again
-    same-length
-    returns)
+    tie.close (tie.spec add-mid add-hi raise-requires overlap-rows-requires same-length returns)

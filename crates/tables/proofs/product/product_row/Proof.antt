@@ -9,11 +9,11 @@ use Rattle.tables.proofs.product.product_row.Statement.{statement}
 use Rattle.tables.proofs.product.product_row.Tie as tie
 
 abbrev Inv-loop : tie.InvT-loop
-Inv-loop t₀ old base m n p hi q₀ t q =
-    (base ≤ q) × (q ≤ hi) × (length t ≡ length t₀) × Put t₀ t p (p + 1) base q (paired old base m n)
+Inv-loop t₀ u s p hi q₀ t q =
+    (s .base ≤ q) × (q ≤ hi) × (length t ≡ length t₀) × Put t₀ t p (p + 1) (s .base) q (paired u (s .base) (s .n) (s .second))
 
 abbrev μ-loop : tie.MeasureT-loop
-μ-loop t₀ old base m n p hi q₀ t q = hi - q
+μ-loop t₀ u s p hi q₀ t q = hi - q
 
 mul-hi : tie.Need-mul-hi Inv-loop μ-loop
 mul-hi c = omega arith
