@@ -1,44 +1,49 @@
 // Reads one input from standard input and prints its line: a byte that says how long the rule is, the rule, and the model.
-use libc::STDIN_FILENO;
-use libc::STDOUT_FILENO;
+// Where a read or a write fails there is no verdict, and standard error says so.
+ghost use Prim.Native.Nat.{_≤_};
+ghost use mathlib.Core.Path.{_≡_};
+ghost use lib.ListN.{length, take};
+ghost use Rattle.rulecheck.specs.Printed.{Lent, PrintedFor};
+use lines::LINE_ROOM;
+use streams::Input;
 
 // The length byte, a rule of 255 bytes and 705 of the model: what comes after never changes the line.
 const INPUT_ROOM: usize = 961;
 
 // The line and the newline that closes it.
-const OUTPUT_ROOM: usize = 16385;
+const OUTPUT_ROOM: usize = LINE_ROOM + 1;
 
 const NEWLINE: u8 = 10;
 
-const MOST_READS: u64 = 1 << 60;
-
-// Puts the line and its newline into `out`, and prints them.
-fn print_line(input: &[u8], out: &mut [u8]) {
-    let long = lines::line(input, out);
-    if long < out.len() {
-        out[long] = NEWLINE;
-        let end = long + 1;
-        io::write_all(STDOUT_FILENO, &out[..end]);
-    }
+// The first n bytes.
+fn front(s: &[u8], n: usize) -> &[u8]
+    requires { ⌜ n ≤ length (now s) ⌝ }
+    ensures { λ r. ⌜ now r ≡ take n (now (s .entry)) ⌝ }
+{
+    &s[..n]
 }
 
-// Reads what is left of standard input, so that whoever writes it is not cut off. A loop has to end: no input lasts for this many reads.
-fn read_rest(space: &mut [u8]) {
-    let mut left: u64 = MOST_READS;
-    while left > 0 {
-        let got = io::read_full(STDIN_FILENO, space);
-        if got == 0 {
-            return;
-        }
-        left -= 1;
-    }
+// All but the system's calls: the first `long` bytes of `space` were read, and `out` is to begin with what is printed, so many bytes of it.
+fn printed(space: &[u8], long: usize, out: &mut [u8]) -> usize
+    requires { ⌜ Lent (now space) long (now out) ⌝ }
+    ensures { λ r. ⌜ PrintedFor (take long (now (space .entry))) (now (out .exit)) r ⌝ }
+{
+    let end = lines::line(front(space, long), &mut out[..LINE_ROOM]);
+    out[end] = NEWLINE;
+    end + 1
 }
 
 fn main() {
     let mut space = [0u8; INPUT_ROOM];
     let mut out = [0u8; OUTPUT_ROOM];
-    let long = io::read_full(STDIN_FILENO, &mut space);
-    print_line(&space[..long], &mut out);
-    let mut rest = io::large_buffer();
-    read_rest(&mut rest);
+    let input = streams::read_input(&mut space);
+    match input {
+        Input::Whole(long) => {
+            let end = printed(&space, long, &mut out);
+            if !streams::write_output(&out[..end]) {
+                os::fail(b"rulecheck: standard output could not be written, no verdict");
+            }
+        }
+        Input::Failed => os::fail(b"rulecheck: standard input could not be read, no verdict"),
+    }
 }
