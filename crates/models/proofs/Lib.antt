@@ -7,3 +7,4 @@ pub mod Finish
 pub mod Unique
 pub mod Examples
 pub mod Beginning
+pub mod Faulting

@@ -14,3 +14,4 @@ pub mod Accepting
 pub mod Maps
 pub mod Deciding
 pub mod Held
+pub mod Faulting

@@ -9,3 +9,4 @@ pub mod Encoding
 pub mod Walks
 pub mod Answer
 pub mod Sequences
+pub mod Faults

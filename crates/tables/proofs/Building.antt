@@ -19,7 +19,8 @@ use Rattle.rules.proofs.Weighing.{weight-pos}
 use Rattle.tables.specs.declared.shape.Shape.{Shape}
 use Rattle.tables.specs.declared.fill.Place.{Place}
 use Rattle.tables.specs.declared.fill.Place.the-variants.{Nowhere, From}
-use Rattle.tables.specs.Cells.{tableEntries, Put, Clean}
+use Rattle.tables.specs.Table.{tableEntries}
+use Rattle.tables.specs.Cells.{Put, Clean}
 use Rattle.tables.specs.Block.{Built}
 use Rattle.tables.specs.Shapes.{Fits, ShapeOf, ShapedAs}
 use Rattle.tables.specs.Building.{Ready, BuiltAt, Room, Joins, Repeats, Placed, nowhere, from, operandsFrom}

@@ -1,5 +1,5 @@
 -- No second answer and no second slice fit the promise of `build`; and what it leaves in the slice serves the rule. Assumes nothing.
-use Prim.Native.Nat.{ℕ, _+_, _*_, _/_, _%_, _^_, _<_}
+use Prim.Native.Nat.{ℕ, _+_, _*_, _/_, _%_, _^_, _<_, _≤_}
 use native.Mathlib.Omega.{arith}
 use mathlib.Core.Path.{_≡_, refl, sym, ap, ap₂, subst, _∙_}
 use mathlib.Core.List.{List}
@@ -64,6 +64,7 @@ one-answer s t u v a b hu hv ra rb =
     let o = one-result s t u v hu hv ra rb in
     (sym (meant-told a) ∙ ap meant (o .0) ∙ meant-told b, o .1)
 
--- what an accepted rule leaves in the slice is a table that serves it
-pub right-serves : (s t u : List ℕ) (k : Known) (f : ℕ) → Words u → Right s t u (tabled k f) → (r : Rule) × AcceptedAs s r × (k ≡ knownOf r) × Serves (tableOf u (k .weight) f) r
-right-serves s t u k f hu (the-table {r} a l lf i p) = (r, a, refl, serves r u f i (a .light) hu)
+-- what an accepted rule leaves in the slice is a table that serves it, whether the states beyond its weight are counted or not
+pub right-serves : (s t u : List ℕ) (k : Known) (f : ℕ) → Words u → Right s t u (tabled k f)
+    → (r : Rule) × AcceptedAs s r × (k ≡ knownOf r) × ((n : ℕ) → k .weight ≤ n → n ≤ 64 → Serves (tableOf u n f) r)
+right-serves s t u k f hu (the-table {r} a l lf i p) = (r, a, refl, λ n light small. serves r u f i n light small hu)

@@ -51,37 +51,38 @@ module _ (r : Rule) (t u : List ℕ) (f g : ℕ) (is : IsTable r t f) (js : IsTa
   one-finals hf hg =
       ext 64 f g hf hg (λ q h. same-truth (bit f q) (bit g q) (λ a. js .ends q h .1 (is .ends q h .0 a)) (λ a. is .ends q h .1 (js .ends q h .0 a)))
 
-module _ (r : Rule) (t : List ℕ) (f : ℕ) (is : IsTable r t f) (small : weightOf r ≤ 64) where
+-- as many states as the rule weighs, or more up to 64, of which the others have no label
+module _ (r : Rule) (t : List ℕ) (f : ℕ) (is : IsTable r t f) (n : ℕ) (light : weightOf r ≤ n) (small : n ≤ 64) where
   abbrev A : Table
-  A = tableOf t (weightOf r) f
+  A = tableOf t n f
 
   -- what the table accepts from a state, the rule's automaton accepts there, and back
   goes-acc : (p q : ℕ) (w : List ℕ) → Letters w → Goes A p w q → T (A .final q) → Acc (auto r) p w
-  goes-acc p q [] h e s = let k = final-out (weightOf r) f q s in rw e (is .ends q (omega arith) .0 (k .1))
+  goes-acc p q [] h e s = let k = final-out n f q s in rw e (is .ends q (omega arith) .0 (k .1))
   goes-acc p q (x ∷ w) h g s =
-      let k = edge-out t (weightOf r) f p x (g .0) (g .1) in
+      let k = edge-out t n f p x (g .0) (g .1) in
       (g .0, is .label p (g .0) x (omega arith) (omega arith) (h .0) .0 (k .2), goes-acc (g .0) q w (h .1) (g .2) s)
 
   acc-goes : (p : ℕ) (w : List ℕ) → Letters w → Acc (auto r) p w → (q : ℕ) × Goes A p w q × T (A .final q)
-  acc-goes p [] h a = let l = final-inside r p a in (p, refl, final-in (weightOf r) f p l (is .ends p (omega arith) .1 a))
+  acc-goes p [] h a = let l = final-inside r p a in (p, refl, final-in n f p (omega arith) (is .ends p (omega arith) .1 a))
   acc-goes p (x ∷ w) h (m, s, a) =
       let e = step-inside r p x m s in let g = acc-goes m w (h .1) a in
-      (g .0, (m, edge-in t (weightOf r) f p x m (e .lo) (e .hi) (is .label p m x (omega arith) (omega arith) (h .0) .1 s), g .1), g .2)
+      (g .0, (m, edge-in t n f p x m (omega arith) (omega arith) (is .label p m x (omega arith) (omega arith) (h .0) .1 s), g .1), g .2)
 
   unentered : Words t → (p x : ℕ) → T (A .edge p x 0) → ⊥
-  unentered words p x s = let h = edge-out t (weightOf r) f p x 0 s in go (lt-or-ge x 64) (h .0) (h .2)
+  unentered words p x s = let h = edge-out t n f p x 0 s in go (lt-or-ge x 64) (h .0) (h .2)
     where
-      go : (x < 64) ⊎ (64 ≤ x) → p < weightOf r → T (bit (cell t p 0) x) → ⊥
+      go : (x < 64) ⊎ (64 ≤ x) → p < n → T (bit (cell t p 0) x) → ⊥
       go (inl l) k b = no-label r t f is p 0 x (omega arith) (omega arith) l (inr (inr refl)) b
       go (inr l) k b = false-no (bit-above 64 (cell t p 0) x (words (64 * p + 0)) l) b
 
   -- the table of a rule that weighs at most 64 serves it
-  pub serves : Words t → Serves (tableOf t (weightOf r) f) r
+  pub serves : Words t → Serves (tableOf t n f) r
   serves words = record {
-    some = weight-pos r;
+    some = let h = weight-pos r in omega arith;
     small = small;
     sound = λ w h a. sound r w (goes-acc 0 (a .0) w h (a .1) (a .2));
     complete = λ w h s. acc-goes 0 w h (complete r w s);
-    inside = λ p x q s. let h = edge-out t (weightOf r) f p x q s in (h .0, h .1);
+    inside = λ p x q s. let h = edge-out t n f p x q s in (h .0, h .1);
     unentered = unentered words;
   }

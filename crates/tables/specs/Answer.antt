@@ -9,7 +9,7 @@ use Rattle.rules.specs.Refusals.{number, place}
 use Rattle.rules.specs.Answer.{answer, AcceptedAs, knownOf}
 use Rattle.tables.specs.declared.TableAnswer.{TableAnswer}
 use Rattle.tables.specs.declared.TableAnswer.the-variants.{Tabled, RuleRefused, ShortTable}
-use Rattle.tables.specs.Cells.{tableEntries}
+use Rattle.tables.specs.Table.{tableEntries}
 use Rattle.tables.specs.Beyond.{Beyond}
 use Rattle.tables.specs.IsTable.{IsTable}
 

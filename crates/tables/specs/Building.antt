@@ -13,7 +13,8 @@ use Rattle.tables.specs.declared.shape.Shape.{Shape}
 use Rattle.tables.specs.declared.product.Pairs.{Pairs}
 use Rattle.tables.specs.declared.fill.Place.{Place}
 use Rattle.tables.specs.declared.fill.Place.the-variants.{Nowhere, From}
-use Rattle.tables.specs.Cells.{tableEntries, Clean}
+use Rattle.tables.specs.Table.{tableEntries}
+use Rattle.tables.specs.Cells.{Clean}
 use Rattle.tables.specs.Block.{Beside, Built}
 use Rattle.tables.specs.Shapes.{ShapeOf}
 

@@ -8,10 +8,6 @@ use lib.Dec.{ltb}
 use Rattle.bits.specs.Word.{bit}
 use Rattle.tables.specs.Table.{cell}
 
--- a lent table has at least this many entries
-abbrev pub tableEntries : ℕ
-tableEntries = 4096
-
 -- the rows a to b, the columns c to d
 pub record In (a b c d p q : ℕ) : Type 0 where
   pub top : a ≤ p

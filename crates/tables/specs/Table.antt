@@ -13,6 +13,14 @@ pub record Table : Type 0 where
   pub edge : ℕ → ℕ → ℕ → Bool
   pub final : ℕ → Bool
 
+-- a table has room for this many states
+abbrev pub tableStates : ℕ
+tableStates = 64
+
+-- a lent table has at least this many entries
+abbrev pub tableEntries : ℕ
+tableEntries = 4096
+
 -- the label from p to q stands at 64p+q
 abbrev pub cell : List ℕ → ℕ → ℕ → ℕ
 cell t p q = getD t (64 * p + q) 0

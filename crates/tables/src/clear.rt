@@ -1,7 +1,8 @@
 // Takes the labels out of a square of the table.
 ghost use Prim.Native.Nat.{_+_, _<_, _≤_};
 ghost use lib.ListN.{length};
-ghost use Rattle.tables.specs.Cells.{tableEntries, Put};
+ghost use Rattle.tables.specs.Table.{tableEntries};
+ghost use Rattle.tables.specs.Cells.{Put};
 use crate::cells::put;
 
 // Row p has no label in the columns lo to hi.

@@ -2,9 +2,9 @@
 ghost use Prim.Native.Nat.{_+_, _-_, _<_, _≤_};
 ghost use lib.ListN.{length};
 ghost use lib.Bits.{bitOr, bitAnd};
-ghost use Rattle.tables.specs.Table.{cell};
+ghost use Rattle.tables.specs.Table.{tableEntries, cell};
 ghost use Rattle.rules.specs.declared.kinds.Pair.the-variants.{Overlap};
-ghost use Rattle.tables.specs.Cells.{tableEntries, Put, overlappedBy, overlapped};
+ghost use Rattle.tables.specs.Cells.{Put, overlappedBy, overlapped};
 ghost use Rattle.tables.specs.Building.{Room, Joins};
 use crate::cells::get;
 use crate::cells::put;

@@ -4,8 +4,7 @@ ghost use Prim.Native.Nat.{_<_, _≤_};
 ghost use lib.ListN.{length};
 ghost use Rattle.bits.specs.Word.{bit};
 ghost use Rattle.rules.specs.Definition2.{letterCount};
-ghost use Rattle.tables.specs.Table.{cell};
-ghost use Rattle.tables.specs.Cells.{tableEntries};
+ghost use Rattle.tables.specs.Table.{tableEntries, cell};
 use crate::cells::get;
 
 // Whether letter x is in the label from p to q.

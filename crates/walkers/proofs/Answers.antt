@@ -14,10 +14,11 @@ use Rattle.rules.specs.Definition2.{letterCount}
 use Rattle.walkers.specs.declared.Walker.{Walker}
 use Rattle.walkers.specs.declared.Refusal.the-variants.{ShortTable, BadLetter}
 use Rattle.walkers.specs.declared.StepAnswer.the-variants.{Moved, Refused}
-use Rattle.tables.specs.Cells.{tableEntries}
-use Rattle.walkers.specs.Steps.{advanced, meets, flag, refusal, told, stepOf}
+use Rattle.tables.specs.Table.{tableEntries}
+use Rattle.steps.specs.Moves.{advanced, meets}
+use Rattle.steps.proofs.Gathering.{advanced-lt, meets-test}
+use Rattle.walkers.specs.Steps.{flag, refusal, told, stepOf}
 use Rattle.walkers.specs.Walks.{followFrom, followOf}
-use Rattle.walkers.proofs.Sets.{advanced-lt, meets-test}
 
 module _ (t : List ℕ) (w : Walker) (x : ℕ) where
   pub step-short : length t < tableEntries → told (record { walker = w; answer = Refused ShortTable }) ≡ stepOf t w x

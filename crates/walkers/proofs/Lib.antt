@@ -1,4 +1,3 @@
-pub mod Sets
 pub mod Walking
 pub mod Answers
 pub mod OneAnswer

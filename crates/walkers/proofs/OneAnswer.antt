@@ -1,5 +1,6 @@
 -- No second answer fits a promise: what is told determines the answer. Assumes nothing.
-use mathlib.Core.Bool.{cond}
+use mathlib.Core.Bool.{true, cond}
+use mathlib.Core.Logic.{_↔_, Iff·trans}
 use Prim.Native.Nat.{ℕ}
 use mathlib.Core.Path.{_≡_, refl, sym, ap, _∙_}
 use mathlib.Core.List.{List}
@@ -13,7 +14,8 @@ use Rattle.walkers.specs.declared.FollowAnswer.{FollowAnswer}
 use Rattle.walkers.specs.declared.FollowAnswer.the-variants as follow-variants
 use Rattle.walkers.specs.declared.Step.{Step}
 use Rattle.walkers.specs.Steps.{Outcome, flag, refusal, outcome, Told, told, stepOf}
-use Rattle.walkers.specs.Walks.{ending, followOf}
+use Rattle.walkers.specs.Walks.{ending, followOf, Follows}
+use Rattle.walkers.proofs.Walking.{follow-sat}
 
 -- the refusal of a number and a place
 abbrev refusalOf : ℕ → ℕ → Refusal
@@ -48,3 +50,11 @@ follow-back (follow-variants.Refused (BadLetter i)) = refl
 
 pub one-follow : (t : List ℕ) (f : ℕ) (l : List ℕ) (r s : FollowAnswer) → ending r ≡ followOf t f l → ending s ≡ followOf t f l → r ≡ s
 one-follow t f l r s d e = sym (follow-back r) ∙ ap followBack (d ∙ sym e) ∙ follow-back s
+
+-- what is told of yes is yes
+pub yes-told : (t : List ℕ) (f : ℕ) (l : List ℕ) (r : FollowAnswer) → ending r ≡ followOf t f l → (r ≡ follow-variants.Ended true) ↔ (followOf t f l ≡ flag true)
+yes-told t f l r e = (λ d. sym e ∙ ap ending d, λ d. sym (follow-back r) ∙ ap followBack (e ∙ d))
+
+-- so an answer that fits follows each rule that the table serves
+pub follows : (t : List ℕ) (f : ℕ) (l : List ℕ) (r : FollowAnswer) → ending r ≡ followOf t f l → Follows t f l r
+follows t f l r e = record { follows = λ a serves long h. Iff·trans (yes-told t f l r e) (follow-sat a t f serves long l h) }

@@ -1,31 +1,18 @@
 -- What one step of a walker gives. Assumes nothing: these are definitions.
 use Prim.Native.Nat.{ℕ}
-use mathlib.Core.Bool.{Bool, _&&_, cond}
+use mathlib.Core.Bool.{Bool, cond}
 use mathlib.Core.List.{List}
 use lib.Dec.{ltb}
 use lib.ListN.{length}
-use Rattle.bits.specs.Word.{bit, word, any}
 use Rattle.rules.specs.Definition2.{letterCount}
-use Rattle.tables.specs.Table.{cell}
-use Rattle.tables.specs.Cells.{tableEntries}
+use Rattle.tables.specs.Table.{tableEntries}
+use Rattle.steps.specs.Moves.{advanced, meets}
 use Rattle.walkers.specs.declared.Walker.{Walker}
 use Rattle.walkers.specs.declared.Refusal.{Refusal}
 use Rattle.walkers.specs.declared.Refusal.the-variants.{ShortTable, BadLetter}
 use Rattle.walkers.specs.declared.StepAnswer.{StepAnswer}
 use Rattle.walkers.specs.declared.StepAnswer.the-variants.{Moved, Refused}
 use Rattle.walkers.specs.declared.Step.{Step}
-
--- the states that p reaches under the letter x
-unfoldable pub rowOf : List ℕ → ℕ → ℕ → ℕ
-rowOf t p x = word 64 (λ q. bit (cell t p q) x)
-
--- the states that some member of the set reaches under the letter x
-unfoldable pub advanced : List ℕ → ℕ → ℕ → ℕ
-advanced t set x = word 64 (λ q. any 64 (λ p. bit set p && bit (cell t p q) x))
-
--- whether a final is in the set
-unfoldable pub meets : ℕ → ℕ → Bool
-meets set finals = any 64 (λ q. bit set q && bit finals q)
 
 -- a walker starts at {0}
 abbrev pub startOf : ℕ → Walker

@@ -1,15 +1,20 @@
 -- What a walk over a sequence of letters gives. Assumes nothing: these are definitions.
-use mathlib.Core.Bool.{cond}
-use Prim.Native.Nat.{ℕ, _+_}
+use mathlib.Core.Bool.{true, cond}
+use Prim.Native.Nat.{ℕ, _+_, _≤_}
+use mathlib.Core.Path.{_≡_}
+use mathlib.Core.Logic.{_↔_}
 use mathlib.Core.List.{List, [], _∷_}
 use lib.Dec.{ltb}
 use lib.ListN.{length}
-use Rattle.rules.specs.Definition2.{letterCount}
+use Rattle.rules.specs.Definition1.{Rule}
+use Rattle.rules.specs.Definition2.{letterCount, Sat}
 use Rattle.walkers.specs.declared.Walker.{Walker}
 use Rattle.walkers.specs.declared.FollowAnswer.{FollowAnswer}
 use Rattle.walkers.specs.declared.FollowAnswer.the-variants.{Ended, Refused}
-use Rattle.tables.specs.Cells.{tableEntries}
-use Rattle.walkers.specs.Steps.{advanced, meets, startOf, Outcome, flag, refusal, refused, stepOf}
+use Rattle.tables.specs.Table.{tableStates, tableEntries, tableOf}
+use Rattle.tables.specs.Promise.{Letters, Serves}
+use Rattle.steps.specs.Moves.{advanced, meets}
+use Rattle.walkers.specs.Steps.{startOf, Outcome, flag, refusal, refused, stepOf}
 
 -- the letters from place i on: the first that is no letter is refused, and after the last it is told whether a final is in the set
 unfoldable pub followFrom : List ℕ → ℕ → ℕ → ℕ → List ℕ → Outcome
@@ -29,3 +34,7 @@ ending (Refused r) = refused r
 unfoldable pub lastSays : List ℕ → Walker → Outcome → List ℕ → Outcome
 lastSays t w before [] = before
 lastSays t w before (x ∷ l) = lastSays t (stepOf t w x .walker) (stepOf t w x .says) l
+
+-- over a table that serves a rule, all of its states counted, yes is said exactly if Definition 2 accepts the letters
+pub record Follows (t : List ℕ) (finals : ℕ) (w : List ℕ) (answer : FollowAnswer) : Type 0 where
+  pub follows : (r : Rule) → Serves (tableOf t tableStates finals) r → tableEntries ≤ length t → Letters w → (answer ≡ Ended true) ↔ Sat r w

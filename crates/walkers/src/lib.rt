@@ -1,15 +1,10 @@
 // Follows letters through a lent table: a walker that is stepped, and a whole sequence at once.
 ghost use mathlib.Core.Path.{_≡_};
-ghost use Prim.Native.Nat.{_<_, _≤_};
-ghost use lib.ListN.{length};
-ghost use Rattle.rules.specs.Definition2.{letterCount};
-ghost use Rattle.tables.specs.Cells.{tableEntries};
-ghost use Rattle.walkers.specs.Steps.{rowOf, advanced, startOf, told, stepOf};
-ghost use Rattle.walkers.specs.Walks.{followOf, ending};
+ghost use Rattle.walkers.specs.Steps.{startOf, told, stepOf};
+ghost use Rattle.walkers.specs.Walks.{followOf, ending, Follows};
 use rules::formulas::LETTER_COUNT;
-use tables::STATES;
+use steps::advance;
 use tables::TABLE_ENTRIES;
-use tables::step::in_label;
 
 // A letter is below this.
 const LETTERS: u8 = LETTER_COUNT as u8;
@@ -44,37 +39,6 @@ pub struct Step {
 pub enum FollowAnswer {
     Ended(bool),
     Refused(Refusal),
-}
-
-// The states that p reaches under the letter.
-fn row(table: &[u64], p: usize, letter: u8) -> u64
-    requires { ⌜ (tableEntries ≤ length (now table)) × (p < 64) × (letter < letterCount) ⌝ }
-    ensures { λ r. ⌜ r ≡ rowOf (now (table .entry)) p letter ⌝ }
-{
-    let mut reached: u64 = 0;
-    let mut q: usize = 0;
-    while q < STATES {
-        if in_label(table, p, q, letter as usize) {
-            reached |= 1u64 << q;
-        }
-        q += 1;
-    }
-    reached
-}
-
-// The states that some member of the set reaches under the letter: a row for each member, and no other.
-pub fn advance(table: &[u64], set: u64, letter: u8) -> u64
-    requires { ⌜ (tableEntries ≤ length (now table)) × (letter < letterCount) ⌝ }
-    ensures { λ r. ⌜ r ≡ advanced (now (table .entry)) set letter ⌝ }
-{
-    let mut reached: u64 = 0;
-    let mut rest = set;
-    while rest != 0 {
-        let p = bits::lowest(rest);
-        reached |= row(table, p, letter);
-        rest = bits::without(rest, p);
-    }
-    reached
 }
 
 impl Walker {
@@ -118,6 +82,7 @@ impl Walker {
 // Whether the letters lead from state 0 to a final state.
 pub fn follow(table: &[u64], finals: u64, letters: &[u8]) -> FollowAnswer
     ensures { λ r. ⌜ ending r ≡ followOf (now (table .entry)) finals (now (letters .entry)) ⌝ }
+    ensures { λ r. ⌜ Follows (now (table .entry)) finals (now (letters .entry)) r ⌝ }
 {
     if table.len() < TABLE_ENTRIES {
         return FollowAnswer::Refused(Refusal::ShortTable);

@@ -3,6 +3,7 @@ use Prim.Native.Nat.{_-_}
 use native.Mathlib.Omega.{arith}
 use lib.ListN.{length}
 use Rattle.walkers.proofs.Answers.{Following, follow-short, following-start, following-turn, follow-refused, follow-ended}
+use Rattle.walkers.proofs.OneAnswer.{follows}
 use Rattle.walkers.proofs.follow.Statement.{statement}
 use Rattle.walkers.proofs.follow.Tie as tie
 
@@ -13,7 +14,7 @@ abbrev μ-loop : tie.MeasureT-loop
 μ-loop table finals letters set₀ i₀ set i = length letters - i
 
 returns : tie.Need-returns Inv-loop μ-loop
-returns c = follow-short _ _ _ (omega arith)
+returns c = (follow-short _ _ _ (omega arith), follows _ _ _ _ (follow-short _ _ _ (omega arith)))
 
 loop-holds : tie.Need-loop-holds Inv-loop μ-loop
 loop-holds c = following-start _ _ _
@@ -22,7 +23,7 @@ shared-slice-read-letter : tie.Need-shared-slice-read-letter Inv-loop μ-loop
 shared-slice-read-letter c = omega arith
 
 returns-2 : tie.Need-returns-2 Inv-loop μ-loop
-returns-2 c = follow-refused _ _ _ _ _ (c .before .before .before .loop .inv) (omega arith) (omega arith) (omega arith)
+returns-2 c = (follow-refused _ _ _ _ _ (c .before .before .before .loop .inv) (omega arith) (omega arith) (omega arith), follows _ _ _ _ (follow-refused _ _ _ _ _ (c .before .before .before .loop .inv) (omega arith) (omega arith) (omega arith)))
 
 advance-requires : tie.Need-advance-requires Inv-loop μ-loop
 advance-requires c κs = omega arith
@@ -37,7 +38,7 @@ loop-again : tie.Need-loop-again Inv-loop μ-loop
 loop-again c = following-turn _ _ _ _ _ (c .before .before .before .before .loop .inv) _ (omega arith) (omega arith) (c .advance .ensures)
 
 returns-3 : tie.Need-returns-3 Inv-loop μ-loop
-returns-3 c = follow-ended _ _ _ _ _ (c .before .loop .inv) (omega arith) (omega arith)
+returns-3 c = (follow-ended _ _ _ _ _ (c .before .loop .inv) (omega arith) (omega arith), follows _ _ _ _ (follow-ended _ _ _ _ _ (c .before .loop .inv) (omega arith) (omega arith)))
 
 pub follow-spec : {M : Type 1} → statement M
 follow-spec =

@@ -7,9 +7,9 @@ use native.Mathlib.Omega.{arith}
 use Rattle.bits.specs.Word.{bit, word}
 use Rattle.bits.proofs.Laws.{turn-set, turn-skip, word-none}
 use Rattle.tables.specs.Table.{cell}
-use Rattle.walkers.specs.Steps.{rowOf}
-use Rattle.walkers.proofs.row.Statement.{statement}
-use Rattle.walkers.proofs.row.Tie as tie
+use Rattle.steps.specs.Moves.{rowOf}
+use Rattle.steps.proofs.row.Statement.{statement}
+use Rattle.steps.proofs.row.Tie as tie
 
 abbrev Inv-loop : tie.InvT-loop
 Inv-loop table p letter reached₀ q₀ reached q = (q ≤ 64) × (reached ≡ word q (λ j. bit (cell table p j) letter))

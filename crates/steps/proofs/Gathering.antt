@@ -12,15 +12,8 @@ use borrow.Author.Tests.{ne-eqb}
 use Rattle.bits.specs.Word.{bit, word, any, remove}
 use Rattle.bits.proofs.Laws.{bit-or, bit-zero, bit-word, bit-remove, word-lt, word-unique, any-intro, any-elim, any-none, any-meet}
 use Rattle.tables.specs.Table.{cell}
-use Rattle.bits.proofs.Truths.{and-T, or-T, true-T, T-true, same-truth}
-use Rattle.walkers.specs.Steps.{rowOf, advanced, meets}
-
--- some k below n, as a fact
-pub any-T : (n : ℕ) (f : ℕ → Bool) → T (any n f) ↔ ((k : ℕ) × (k < n) × T (f k))
-any-T n f = (
-  λ t. let h = any-elim n f (T-true (any n f) t) in (h .0, h .1, true-T (h .2)),
-  λ h. true-T (any-intro n f (h .0) (h .1) (T-true (f (h .0)) (h .2))),
-)
+use Rattle.bits.proofs.Truths.{any-T, and-T, or-T, true-T, T-true, same-truth}
+use Rattle.steps.specs.Moves.{rowOf, advanced, meets}
 
 -- one member taken out, and what it gives put beside the others
 module _ (n rest k : ℕ) (l : ℕ → Bool) (h : k < n) (on : bit rest k ≡ true) where

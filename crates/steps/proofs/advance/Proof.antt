@@ -4,9 +4,9 @@ use mathlib.Core.Path.{_≡_, refl, sym, ap, _∙_}
 use native.Mathlib.Omega.{arith}
 use Rattle.bits.specs.Word.{bit, many}
 use Rattle.bits.proofs.Laws.{many-remove}
-use Rattle.walkers.proofs.Sets.{Gathers, gathers-none, gathers-turn, gathers-all}
-use Rattle.walkers.proofs.advance.Statement.{statement}
-use Rattle.walkers.proofs.advance.Tie as tie
+use Rattle.steps.proofs.Gathering.{Gathers, gathers-none, gathers-turn, gathers-all}
+use Rattle.steps.proofs.advance.Statement.{statement}
+use Rattle.steps.proofs.advance.Tie as tie
 
 abbrev Inv-loop : tie.InvT-loop
 Inv-loop table set letter reached₀ rest₀ reached rest = Gathers table set letter rest reached
