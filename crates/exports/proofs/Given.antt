@@ -12,7 +12,9 @@ use Rattle.tables.specs.Answer as tables
 use Rattle.judge.specs.declared.JudgeAnswer.{JudgeAnswer}
 use Rattle.judge.specs.Verdict as judge
 use Rattle.walkers.specs.declared.StepAnswer.{StepAnswer}
+use Rattle.walkers.specs.declared.FollowAnswer.{FollowAnswer}
 use Rattle.walkers.specs.Steps as walkers
+use Rattle.walkers.specs.Walks.{ending}
 use Rattle.search.specs.declared.SearchAnswer.{SearchAnswer}
 use Rattle.search.specs.declared.SearchAnswer.the-variants.{Answered}
 use Rattle.search.specs.declared.inner.Searched.{Searched}
@@ -22,8 +24,9 @@ use Rattle.exports.specs.declared.reading.GcModel.{GcModel}
 use Rattle.exports.specs.declared.building.GcBuilt.{GcBuilt}
 use Rattle.exports.specs.declared.judging.GcJudged.{GcJudged}
 use Rattle.exports.specs.declared.stepping.GcStepped.{GcStepped}
+use Rattle.exports.specs.declared.following.GcMoved.{GcMoved}
 use Rattle.exports.specs.declared.searching.GcSearched.{GcSearched}
-use Rattle.exports.specs.Numbers.{ruleNumbers, stateNumbers, builtNumbers, judgedNumbers, stepNumbers, searchedNumbers}
+use Rattle.exports.specs.Numbers.{ruleNumbers, stateNumbers, builtNumbers, judgedNumbers, stepNumbers, movedNumbers, searchedNumbers}
 use Rattle.exports.specs.Promise.{Searches}
 
 -- what is right of the case is right of the answer
@@ -48,6 +51,9 @@ judgedOf a = judgedNumbers (judge.told a)
 
 abbrev pub stepOf : ℕ → StepAnswer → GcStepped
 stepOf set a = stepNumbers set (walkers.outcome a)
+
+abbrev pub followOf : FollowAnswer → GcMoved
+followOf a = movedNumbers (ending a)
 
 abbrev pub searchedOf : List ℕ → SearchAnswer → GcSearched
 searchedOf run a = searchedNumbers (search.told a run)

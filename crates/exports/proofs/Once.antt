@@ -13,6 +13,7 @@ use Rattle.judge.specs.declared.JudgeAnswer.{JudgeAnswer}
 use Rattle.judge.specs.Verdict as judge
 use Rattle.judge.proofs.Once as judge-once
 use Rattle.walkers.specs.Steps as walkers
+use Rattle.walkers.specs.Walks.{followOf}
 use Rattle.search.specs.declared.SearchAnswer.{SearchAnswer}
 use Rattle.search.specs.Answer as search
 use Rattle.search.proofs.Once as search-once
@@ -21,8 +22,9 @@ use Rattle.exports.specs.declared.reading.GcModel.{GcModel}
 use Rattle.exports.specs.declared.building.GcBuilt.{GcBuilt}
 use Rattle.exports.specs.declared.judging.GcJudged.{GcJudged}
 use Rattle.exports.specs.declared.stepping.GcStepped.{GcStepped}
+use Rattle.exports.specs.declared.following.GcMoved.{GcMoved}
 use Rattle.exports.specs.declared.searching.GcSearched.{GcSearched}
-use Rattle.exports.specs.Numbers.{ruleNumbers, modelNumbers, builtNumbers, judgedNumbers, walker, steppedNumbers, searchedNumbers}
+use Rattle.exports.specs.Numbers.{ruleNumbers, modelNumbers, builtNumbers, judgedNumbers, walker, steppedNumbers, movedNumbers, searchedNumbers}
 use Rattle.exports.specs.Promise.{Built, Judges, Searches}
 
 pub one-rule : (s : List ℕ) (r r′ : GcRule) → r ≡ ruleNumbers (rules.answer s) → r′ ≡ ruleNumbers (rules.answer s) → r ≡ r′
@@ -34,6 +36,9 @@ one-model s r r′ e e′ = e ∙ sym e′
 pub one-step : (t : List ℕ) (set finals x : ℕ) (r r′ : GcStepped) → r ≡ steppedNumbers (walkers.stepOf t (walker set finals) x) → r′ ≡ steppedNumbers (walkers.stepOf t (walker set finals) x)
     → r ≡ r′
 one-step t set finals x r r′ e e′ = e ∙ sym e′
+
+pub one-follow : (t : List ℕ) (finals : ℕ) (w : List ℕ) (r r′ : GcMoved) → r ≡ movedNumbers (followOf t finals w) → r′ ≡ movedNumbers (followOf t finals w) → r ≡ r′
+one-follow t finals w r r′ e e′ = e ∙ sym e′
 
 pub one-build : (s t u v : List ℕ) (r r′ : GcBuilt) → Words u → Words v → Built s t u r → Built s t v r′ → (r ≡ r′) × (u ≡ v)
 one-build s t u v r r′ hu hv b b′ =

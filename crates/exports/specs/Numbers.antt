@@ -15,6 +15,7 @@ use Rattle.exports.specs.declared.reading.GcModel.{GcModel}
 use Rattle.exports.specs.declared.building.GcBuilt.{GcBuilt}
 use Rattle.exports.specs.declared.judging.GcJudged.{GcJudged}
 use Rattle.exports.specs.declared.stepping.GcStepped.{GcStepped}
+use Rattle.exports.specs.declared.following.GcMoved.{GcMoved}
 use Rattle.exports.specs.declared.searching.GcSearched.{GcSearched}
 
 -- yes is 1, no is 0
@@ -53,6 +54,10 @@ stepNumbers set (walkers.refusal n p) = record { refused = n; place = p; set = s
 
 abbrev pub steppedNumbers : walkers.Told → GcStepped
 steppedNumbers t = stepNumbers (t .walker .set) (t .says)
+
+abbrev pub movedNumbers : walkers.Outcome → GcMoved
+movedNumbers (walkers.flag b) = record { refused = 0; place = 0; matches = digit b }
+movedNumbers (walkers.refusal n p) = record { refused = n; place = p; matches = 0 }
 
 abbrev pub searchedNumbers : search.Result → GcSearched
 searchedNumbers (search.answered k n (found r c)) = record { refused = 0; place = 0; found = 1; length = n; pairs = c }

@@ -6,5 +6,6 @@ mod reading; // a rule, a model
 mod building; // a rule's table
 mod judging; // the plain judge
 mod stepping; // a walker
+mod following; // a whole sequence
 mod searching; // a model, for a rule
 mod checking; // one input, as a line

@@ -1,0 +1,49 @@
+// Following a whole sequence over a table.
+ghost use mathlib.Core.Path.{_≡_};
+ghost use Rattle.walkers.specs.Walks.{ending, followOf};
+ghost use Rattle.exports.specs.Numbers.{movedNumbers};
+use crate::refusals::NO_LETTER;
+use crate::refusals::SHORT_SLICE;
+use walkers::FollowAnswer;
+use walkers::Refusal;
+
+// What a sequence comes to: 1 where a final is in the set at its end.
+#[repr(C)]
+pub struct GcMoved {
+    pub refused: u64,
+    pub place: u64,
+    pub matches: u64,
+}
+
+// The numbers for each case of the answer.
+fn moved_numbers(answer: FollowAnswer) -> GcMoved
+    ensures { λ r. ⌜ r ≡ movedNumbers (ending answer) ⌝ }
+{
+    match answer {
+        FollowAnswer::Ended(matches) => GcMoved {
+            refused: 0,
+            place: 0,
+            matches: matches as u64,
+        },
+        FollowAnswer::Refused(x) => match x {
+            Refusal::ShortTable => GcMoved {
+                refused: SHORT_SLICE,
+                place: 0,
+                matches: 0,
+            },
+            Refusal::BadLetter(i) => GcMoved {
+                refused: NO_LETTER,
+                place: i as u64,
+                matches: 0,
+            },
+        },
+    }
+}
+
+// Follows the letters over the table from state 0.
+#[no_mangle]
+pub extern "C" fn gc_follow(table: &[u64], finals: u64, letters: &[u8]) -> GcMoved
+    ensures { λ r. ⌜ r ≡ movedNumbers (followOf (now (table .entry)) finals (now (letters .entry))) ⌝ }
+{
+    moved_numbers(walkers::follow(table, finals, letters))
+}
