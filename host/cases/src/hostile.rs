@@ -152,6 +152,23 @@ fn too_long() -> Vec<Vec<u8>> {
     rules
 }
 
+/// Hostile letters: none, many, and bytes that are no letters at the ends and in between.
+pub fn letters() -> Vec<Vec<u8>> {
+    let many = vec![63; 3000];
+    let last = [&many[..], &[64]].concat();
+    vec![
+        vec![],
+        vec![0],
+        vec![63],
+        vec![64],
+        vec![0xFF; 300],
+        vec![0, 64, 0xFF],
+        vec![63, 63, 0x80, 63],
+        last,
+        many,
+    ]
+}
+
 /// All hostile models.
 pub fn models() -> Vec<Vec<u8>> {
     [too_many(), cuts(), faults(), strays()].concat()
