@@ -32,6 +32,7 @@ pub fn rules() -> Vec<Vec<u8>> {
         formulas(),
         pairs(),
         at_the_weight(),
+        deep(),
         past_every_word(),
         too_long(),
     ]
@@ -121,6 +122,53 @@ fn at_the_weight() -> Vec<Vec<u8>> {
         rules.push(joined_right(kind, &letter, 32));
         rules.push(joined_left(kind, &ANY, 32));
         rules.push(joined_right(kind, &ANY, 33));
+    }
+    rules
+}
+
+/// Accepted rules of 255 bytes that take a deep stack: repetitions as deep as they go, above and below each operator
+/// that works on arrays of its own, and above the deepest formulas.
+pub fn deep() -> Vec<Vec<u8>> {
+    let six = ANY.repeat(6);
+    let heaviest = [&[WITHIN, WITHIN, EMPTY, EMPTY], &ANY[..]].concat();
+    let mut rules = vec![
+        // Products above the repetitions, which stand in the first operand or in the last.
+        [&[BOTH; 5][..], &[STAR; 238], &six].concat(),
+        [&[BOTH; 5][..], &six[2..], &[PLUS; 238], &ANY].concat(),
+        [
+            [&[BOTH][..], &ANY].concat().repeat(5),
+            vec![STAR; 238],
+            ANY.to_vec(),
+        ]
+        .concat(),
+        // Products below the repetitions.
+        [&[STAR; 238][..], &[BOTH; 5], &six].concat(),
+        nested(PLUS, 252, &[BOTH, EMPTY, EMPTY]),
+        nested(STAR, 252, &[WITHIN, EMPTY, EMPTY]),
+        nested(STAR, 249, &heaviest),
+        [&[WITHIN, WITHIN][..], &[STAR; 249], &heaviest[2..]].concat(),
+        [&heaviest[..4], &[PLUS; 249], &ANY].concat(),
+        // As deep by pairs as by repetitions, so that operands wait on every level.
+        [&[STAR; 129][..], &joined_left(THEN, &[EMPTY], 63), &[]].concat(),
+        nested(STAR, 127, &joined_left(CHOICE, &[EMPTY], 32)),
+        nested(STAR, 127, &joined_right(BOTH, &[EMPTY], 64)),
+    ];
+    for kind in PAIRS {
+        // Each pair with one repetition above it: the deepest turns of one and the other.
+        let turns = [STAR, kind, EMPTY].repeat(if kind == WITHIN { 2 } else { 63 });
+        rules.push([&turns[..], &[EMPTY]].concat());
+    }
+    for (stars, nots) in [(126, 126), (200, 52), (52, 200)] {
+        let letter = [&[LETTER][..], &nested(NOT, nots, &[TRUE])].concat();
+        rules.push(nested(STAR, stars, &letter));
+        let both = [
+            &[BOTH; 5][..],
+            &letter[..nots - 12],
+            &[TRUE],
+            &ANY.repeat(5),
+        ]
+        .concat();
+        rules.push(nested(PLUS, stars, &both));
     }
     rules
 }
