@@ -15,7 +15,7 @@ const ALLOWED: usize = 512 << 10;
 /// How far down is painted: a call that goes deeper than it may is seen.
 const PAINTED: usize = 2 * ALLOWED;
 const STACK: usize = 2 * PAINTED;
-/// What painting takes of the stack itself, with some to spare; a call that takes less is told as this much.
+/// What painting takes of the stack itself, with some to spare: of a call that takes less no more is known.
 const SPARED: usize = 4 << 10;
 const PAINT: u8 = 0xA5;
 const LETTERS: [u8; 16] = [1; 16];
@@ -59,7 +59,10 @@ fn rules() -> Vec<Vec<u8>> {
 fn told(calls: &[Deepest]) -> bool {
     for Deepest { call, bytes, rule } in calls {
         let kib = *bytes as f64 / 1024.0;
-        println!("{call:<20}{kib:>10.1}  {}", shape(rule));
+        match *bytes > SPARED {
+            true => println!("{call:<20}{kib:>10.1}  {}", shape(rule)),
+            false => println!("{call:<20}{:>10}", format!("under {kib}")),
+        }
     }
     calls.iter().all(|call| call.bytes <= ALLOWED)
 }
