@@ -271,4 +271,35 @@ mod tests {
         assert_eq!(*apart(&bytes, &bytes), bytes);
         assert!(matches!(apart::<u8>(&[], &[]), Cow::Borrowed(_)));
     }
+
+    /// The header says so; Rust's own empty slices are never null.
+    #[test]
+    fn null_with_the_count_0_is_a_slice() {
+        use std::ptr::{null, null_mut};
+        let mut lent = Lent {
+            table: &mut [],
+            work1: &mut [],
+            work2: &mut [],
+            run: &mut [],
+        };
+        let empty = [0x11];
+        let rule = (empty.as_ptr(), empty.len());
+        let (n, m) = (null(), null_mut());
+        // SAFETY: NULL with the count 0 is a slice.
+        unsafe {
+            assert_eq!(c::gc_read_rule(n, 0), read_rule(&[]));
+            assert_eq!(c::gc_build(n, 0, null_mut(), 0), build(&[], &mut []));
+            let built = c::gc_build(rule.0, rule.1, null_mut(), 0);
+            assert_eq!(built, build(&empty, &mut []));
+            assert_eq!(c::gc_judge(rule.0, rule.1, n, 0), judge(&empty, &[]));
+            assert_eq!(c::gc_step(1, 1, null(), 0, 0), step(1, 1, &[], 0));
+            assert_eq!(c::gc_follow(null(), 0, 1, n, 0), follow(&[], 1, &[]));
+            assert_eq!(c::gc_read_model(n, 0), read_model(&[]));
+            let (w1, w2) = (null_mut(), null_mut());
+            let searched = c::gc_search(rule.0, rule.1, n, 0, null_mut(), 0, w1, 0, w2, 0, m, 0);
+            assert_eq!(searched, search(&empty, &[], &mut lent));
+            assert_eq!(c::gc_rulecheck(n, 0, m, 0), 0);
+        }
+        assert_eq!(judge(&empty, &[]).accepts, 1);
+    }
 }

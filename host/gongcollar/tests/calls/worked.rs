@@ -157,3 +157,24 @@ fn a_long_run_is_printed_whole() {
     let line = format!("found 1954 pairs 1955: {}", states.join(" "));
     assert_eq!(rulecheck(&line_input(&rule, &ring)), line);
 }
+
+#[test]
+fn calls_run_in_several_threads() {
+    let rule = heavy::cycle_then_p0(31);
+    let model = models::ring(64, Some(33));
+    let line = rulecheck(&line_input(&rule, &model));
+    let many = || {
+        let mut workspace = Workspace::new();
+        for _ in 0..3 {
+            assert_eq!(workspace.search(&rule, &model).unwrap().pairs, 1955);
+            assert_eq!(workspace.search(&RULE, &three_states()).unwrap().pairs, 3);
+            assert_eq!(rulecheck(&line_input(&rule, &model)), line);
+            assert!(accepts(&RULE, &[1, 2, 2, 4]));
+        }
+    };
+    std::thread::scope(|threads| {
+        for _ in 0..4 {
+            threads.spawn(many);
+        }
+    });
+}
