@@ -1,4 +1,5 @@
-/* A host in C: searches a small model for a run that matches a rule, and shows a refusal. From the repository's root:
+/* A host in C: searches a small model for a run that matches a rule, shows a refusal, and follows events by the rule's
+ * table. From the repository's root:
  *
  *     rt staticlib exports
  *     cc -Iinclude examples/check.c target/staticlib/libexports.a -o target/check && target/check
@@ -7,6 +8,10 @@
 
 #include <inttypes.h>
 #include <stdio.h>
+
+#if GONGCOLLAR_VERSION < 2
+#error "gc_follow came with version 2 of the header"
+#endif
 
 enum { ENTRIES = 4096 };
 
@@ -45,9 +50,27 @@ static void show(const char *what, gc_searched answer) {
     printf("; %" PRIu64 " pairs\n", answer.pairs);
 }
 
+/* whether the rule accepts the events; its table stands in `table` and has these finals */
+static void follow(const char *what, uint64_t finals, const uint8_t *events, size_t count) {
+    gc_moved answer = gc_follow(table, ENTRIES, finals, events, count);
+    printf("%s: ", what);
+    if (answer.refused)
+        printf("refused %" PRIu64 " at %" PRIu64 "\n", answer.refused, answer.place);
+    else
+        printf("%s\n", answer.matches ? "they match" : "they do not match");
+}
+
 int main(void) {
     show("the whole model", search(sizeof rule, sizeof model));
     show("a model with no states", search(sizeof rule, 0));
     show("a rule without its last byte", search(sizeof rule - 1, sizeof model));
+
+    /* p0, p1, p1, p2, and a byte that is no letter */
+    static const uint8_t events[] = {1, 2, 2, 4, 64};
+    gc_built built = gc_build(rule, sizeof rule, table, ENTRIES);
+    follow("four events", built.finals, events, 4);
+    follow("the first three of them", built.finals, events, 3);
+    follow("five events", built.finals, events, 5);
+    follow("no events", built.finals, NULL, 0);
     return 0;
 }

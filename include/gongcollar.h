@@ -1,16 +1,26 @@
 /* Gongcollar's C interface. Every call is proved in Rattle; this header is what a host declares.
  *
- * A slice is a pointer and a count of elements. Slices that are lent together must not overlap. In every
- * answer `refused` is 0 for an answer, else the refusal's number, with `place`; the other fields are then 0
- * (but for gc_step, which gives the walker's set back as it came). A refusal leaves every lent slice as it was.
+ * A slice is a pointer and a count of elements. NULL with the count 0 is a slice, the one with no elements. Slices
+ * that are lent together must not overlap. In every answer `refused` is 0 for an answer, else the refusal's number,
+ * with `place`; the other fields are then 0 (but for gc_step, which gives the walker's set back as it came). A
+ * refusal leaves every lent slice as it was.
  *
  * Refusals: 1 to 7 a rule's, 11 to 16 a model's, 21 a lent slice has fewer than 4,096 entries, 22 a byte that is
  * no letter, 23 more than 16 letters for gc_judge. A table's label from p to q stands at 64p+q; a set has bit q
- * for state q. */
+ * for state q.
+ *
+ * No call keeps anything between calls, takes memory or asks anything of the system. So calls may run in several
+ * threads at once, as long as no slice that one of them writes is lent to another. A call needs 512 KiB of stack at
+ * most, whatever it is given: a thread that calls should have that much left. */
 #ifndef GONGCOLLAR_H
 #define GONGCOLLAR_H
 #include <stddef.h>
 #include <stdint.h>
+
+/* The number of this page. It goes up by one whenever a call or a field is added or changed, so that a host can ask
+ * at compile time for the page it was written against, as by `#if GONGCOLLAR_VERSION < 2`. (The page before the first
+ * number had no gc_follow.) The archive has no number of its own: take both from one commit. */
+#define GONGCOLLAR_VERSION 2
 
 #ifdef __cplusplus
 extern "C" {
@@ -20,14 +30,19 @@ typedef struct { uint64_t refused, place, weight; } gc_rule;
 typedef struct { uint64_t refused, place, weight, finals; } gc_built;
 typedef struct { uint64_t refused, place, accepts; } gc_judged;
 typedef struct { uint64_t refused, place, set, matched; } gc_stepped;
+typedef struct { uint64_t refused, place, matches; } gc_moved;
 typedef struct { uint64_t refused, place, states; } gc_model;
 typedef struct { uint64_t refused, place, found, length, pairs; } gc_searched;
 
 gc_rule gc_read_rule(const uint8_t *rule, size_t rule_len);
 gc_built gc_build(const uint8_t *rule, size_t rule_len, uint64_t *table, size_t table_len);
 gc_judged gc_judge(const uint8_t *rule, size_t rule_len, const uint8_t *letters, size_t letters_len);
-/* a walker is its set and its finals; a fresh one is at set 1 */
+/* A walker is its set and its finals. A fresh one is at set 1, and matches if bit 0 of the finals is set; from then on
+ * `matched` says it after each step. */
 gc_stepped gc_step(uint64_t set, uint64_t finals, const uint64_t *table, size_t table_len, uint8_t letter);
+/* a fresh walker led through all the letters: `matches` is 1 if it matches at the end, 22 is at the first index that
+ * holds no letter */
+gc_moved gc_follow(const uint64_t *table, size_t table_len, uint64_t finals, const uint8_t *letters, size_t letters_len);
 gc_model gc_read_model(const uint8_t *model, size_t model_len);
 gc_searched gc_search(const uint8_t *rule, size_t rule_len, const uint8_t *model, size_t model_len,
                       uint64_t *table, size_t table_len, uint16_t *work1, size_t work1_len,

@@ -1,7 +1,9 @@
-//! Times of the proved library and of the plain one on the same inputs: `bench [SEED]`.
+//! Times of the proved library and of the plain one on the same inputs, and the stack that the proved one takes:
+//! `bench [SEED]`. The status is 1 if the libraries differ, or a call takes more stack than it may.
 
 mod generated;
 mod hard;
+mod stack;
 mod timing;
 
 use cases::draws::seed_given;
@@ -21,7 +23,9 @@ fn main() -> ExitCode {
         println!("Processor: {processor}");
     }
     generated::run(seed);
-    ExitCode::from(u8::from(!hard::run()))
+    let same = hard::run();
+    let shallow = stack::run();
+    ExitCode::from(u8::from(!(same && shallow)))
 }
 
 /// The name of the processor, where the system tells it.

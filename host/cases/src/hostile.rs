@@ -32,6 +32,7 @@ pub fn rules() -> Vec<Vec<u8>> {
         formulas(),
         pairs(),
         at_the_weight(),
+        deep(),
         past_every_word(),
         too_long(),
     ]
@@ -125,6 +126,53 @@ fn at_the_weight() -> Vec<Vec<u8>> {
     rules
 }
 
+/// Accepted rules of 255 bytes that take a deep stack: repetitions as deep as they go, above and below each operator
+/// that works on arrays of its own, and above the deepest formulas.
+pub fn deep() -> Vec<Vec<u8>> {
+    let six = ANY.repeat(6);
+    let heaviest = [&[WITHIN, WITHIN, EMPTY, EMPTY], &ANY[..]].concat();
+    let mut rules = vec![
+        // Products above the repetitions, which stand in the first operand or in the last.
+        [&[BOTH; 5][..], &[STAR; 238], &six].concat(),
+        [&[BOTH; 5][..], &six[2..], &[PLUS; 238], &ANY].concat(),
+        [
+            [&[BOTH][..], &ANY].concat().repeat(5),
+            vec![STAR; 238],
+            ANY.to_vec(),
+        ]
+        .concat(),
+        // Products below the repetitions.
+        [&[STAR; 238][..], &[BOTH; 5], &six].concat(),
+        nested(PLUS, 252, &[BOTH, EMPTY, EMPTY]),
+        nested(STAR, 252, &[WITHIN, EMPTY, EMPTY]),
+        nested(STAR, 249, &heaviest),
+        [&[WITHIN, WITHIN][..], &[STAR; 249], &heaviest[2..]].concat(),
+        [&heaviest[..4], &[PLUS; 249], &ANY].concat(),
+        // As deep by pairs as by repetitions, so that operands wait on every level.
+        [&[STAR; 129][..], &joined_left(THEN, &[EMPTY], 63), &[]].concat(),
+        nested(STAR, 127, &joined_left(CHOICE, &[EMPTY], 32)),
+        nested(STAR, 127, &joined_right(BOTH, &[EMPTY], 64)),
+    ];
+    for kind in PAIRS {
+        // Each pair with one repetition above it: the deepest turns of one and the other.
+        let turns = [STAR, kind, EMPTY].repeat(if kind == WITHIN { 2 } else { 63 });
+        rules.push([&turns[..], &[EMPTY]].concat());
+    }
+    for (stars, nots) in [(126, 126), (200, 52), (52, 200)] {
+        let letter = [&[LETTER][..], &nested(NOT, nots, &[TRUE])].concat();
+        rules.push(nested(STAR, stars, &letter));
+        let both = [
+            &[BOTH; 5][..],
+            &letter[..nots - 12],
+            &[TRUE],
+            &ANY.repeat(5),
+        ]
+        .concat();
+        rules.push(nested(PLUS, stars, &both));
+    }
+    rules
+}
+
 /// Weights of 2 to the 7th up to past the 64th, with and without a rest that a word which wraps would show.
 fn past_every_word() -> Vec<Vec<u8>> {
     let mut rules = Vec::new();
@@ -150,6 +198,23 @@ fn too_long() -> Vec<Vec<u8>> {
     rules.push(vec![0xFF; 256]);
     rules.push(vec![0; 1000]);
     rules
+}
+
+/// Hostile letters: none, many, and bytes that are no letters at the ends and in between.
+pub fn letters() -> Vec<Vec<u8>> {
+    let many = vec![63; 3000];
+    let last = [&many[..], &[64]].concat();
+    vec![
+        vec![],
+        vec![0],
+        vec![63],
+        vec![64],
+        vec![0xFF; 300],
+        vec![0, 64, 0xFF],
+        vec![63, 63, 0x80, 63],
+        last,
+        many,
+    ]
 }
 
 /// All hostile models.

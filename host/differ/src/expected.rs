@@ -1,7 +1,7 @@
 //! The calls of [`gongcollar::raw`] as the plain library has them, the later content of lent slices included.
 
 use crate::lent::Slices;
-use gongcollar::raw::{Built, Judged, Model, Rule, Searched, Stepped};
+use gongcollar::raw::{Built, Judged, Model, Moved, Rule, Searched, Stepped};
 use gongcollar::{ENTRIES, LINE_BYTES};
 use plain::Refusal;
 
@@ -67,6 +67,21 @@ pub fn step(set: u64, finals: u64, table: &[u64], letter: u8) -> Stepped {
             place,
             set,
             ..Stepped::default()
+        },
+    }
+}
+
+/// What `follow` should answer.
+pub fn follow(table: &[u64], finals: u64, letters: &[u8]) -> Moved {
+    match plain::follow(table, finals, letters) {
+        Ok(matches) => Moved {
+            matches: matches.into(),
+            ..Moved::default()
+        },
+        Err(Refusal { number, place }) => Moved {
+            refused: number,
+            place,
+            ..Moved::default()
         },
     }
 }

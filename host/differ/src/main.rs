@@ -21,6 +21,9 @@ const RANDOM: usize = 2000;
 const MODELS: usize = 2000;
 const WALKERS: usize = 400;
 const STEPS: usize = 15;
+const WALKS: usize = 2000;
+/// The longest sequence that is followed at once.
+const LONG_WALK: usize = 300;
 const RINGS: usize = 300;
 const FORKS: usize = 2000;
 
@@ -40,6 +43,7 @@ fn main() -> ExitCode {
     short(&mut trials);
     good_and_bad_models(&mut trials);
     steps(&mut trials);
+    walks(&mut trials);
     verdict(seed, &trials)
 }
 
@@ -170,10 +174,10 @@ fn steps(trials: &mut Trials) {
     for _ in 0..WALKERS {
         let labels = lent::labels(&mut trials.draws);
         let walker = Walker::at(trials.draws.set(), trials.draws.set());
-        follow(trials, "random labels", walker, &labels);
+        step_on(trials, "random labels", walker, &labels);
         let rule = rules::accepted(&mut trials.draws);
         if let Ok(built) = plain::build(&rule, gongcollar::ENTRIES) {
-            follow(
+            step_on(
                 trials,
                 "a rule's labels",
                 Walker::start(built.finals),
@@ -183,7 +187,7 @@ fn steps(trials: &mut Trials) {
     }
 }
 
-fn follow(trials: &mut Trials, sort: &'static str, walker: Walker, labels: &[u64]) {
+fn step_on(trials: &mut Trials, sort: &'static str, walker: Walker, labels: &[u64]) {
     let mut walker = walker;
     for _ in 0..STEPS {
         let letter = match trials.draws.once_in(10) {
@@ -197,6 +201,47 @@ fn follow(trials: &mut Trials, sort: &'static str, walker: Walker, labels: &[u64
             walker = Walker::at(trials.draws.set(), walker.finals());
         }
     }
+}
+
+/// Whole sequences: over labels that no rule has and over those of a rule, over a table that is too short, with letters
+/// that are none, with none at all and with many.
+fn walks(trials: &mut Trials) {
+    for _ in 0..WALKS {
+        let labels = lent::labels(&mut trials.draws);
+        let finals = trials.draws.set();
+        let letters = some_letters(&mut trials.draws);
+        trials.follow("random labels", &labels, finals, &letters);
+        let rule = rules::accepted(&mut trials.draws);
+        let Ok(built) = plain::build(&rule, gongcollar::ENTRIES) else {
+            continue;
+        };
+        let (labels, finals) = (&built.labels[..], built.finals);
+        let along = letters::followed(&mut trials.draws, labels, finals, LONG_WALK);
+        let beside = letters::nearly(&mut trials.draws, &along);
+        let damaged = damaged_more(&mut trials.draws, &along);
+        let anywhere = some_letters(&mut trials.draws);
+        for letters in [along, beside, anywhere] {
+            trials.follow("a rule's labels", labels, finals, &letters);
+        }
+        trials.follow("damaged", labels, finals, &damaged);
+        let short = trials.draws.one_of(&[0, 1, 64, gongcollar::ENTRIES - 1]);
+        trials.follow("damaged", &labels[..short], finals, &damaged);
+    }
+    for letters in hostile::letters() {
+        for label in [0, 1, 1 << 63, u64::MAX] {
+            let labels = vec![label; gongcollar::ENTRIES];
+            for finals in [0, 1, 2, 1 << 63, u64::MAX] {
+                trials.follow("hostile", &labels, finals, &letters);
+                trials.follow("hostile", &labels[1..], finals, &letters);
+            }
+        }
+    }
+}
+
+fn some_letters(draws: &mut Draws) -> Vec<u8> {
+    let bound = draws.one_of(&[2, 16, LONG_WALK]);
+    let count = draws.below(bound);
+    letters::perhaps_bad(draws, count)
 }
 
 /// One rule and one model through every call that takes them.

@@ -91,6 +91,22 @@ impl Trials {
         self.report.note("step", sort, outcome, fault);
     }
 
+    /// Leads a fresh walker over whatever labels are there, through all the letters.
+    pub fn follow(&mut self, sort: &'static str, labels: &[u64], finals: u64, letters: &[u8]) {
+        let want = expected::follow(labels, finals, letters);
+        let got = raw::follow(labels, finals, letters);
+        let safe = gongcollar::follow(labels, finals, letters);
+        let fault = unlike(got, want)
+            .or_else(|| unlike_safe(safe, want.refused, want.place, want.matches == 1));
+        let fault = fault.map(|text| {
+            let entries = labels.len();
+            let letters = hex(letters);
+            format!("{entries} labels, finals {finals:x}, letters {letters}: {text}")
+        });
+        let outcome = Outcome::of(want.refused, yes_or_no(want.matches == 1));
+        self.report.note("follow", sort, outcome, fault);
+    }
+
     /// Reads a model.
     pub fn read_model(&mut self, sort: &'static str, model: &[u8]) {
         let want = expected::read_model(model);
@@ -156,18 +172,21 @@ impl Trials {
         self.report.note("rulecheck", sort, outcome, fault);
     }
 
-    /// Walks a sequence through a good rule's table, step by step, and judges it where it is short enough; both are
-    /// held to the published definition.
+    /// Walks a sequence through a good rule's table, step by step and at once, and judges it where it is short enough;
+    /// all are held to the published definition.
     pub fn sequence(&mut self, sort: &'static str, rule: &[u8], letters: &[u8]) {
         let Ok(read) = plain::read_rule(rule) else {
             return;
         };
         let want = plain::accepts(&read.rule, letters);
         let walked = walked(rule, letters);
-        let fault = unlike(walked, Ok(want)).or_else(|| {
-            let judged = gongcollar::judge(rule, letters);
-            (letters.len() <= JUDGED).then(|| unlike(judged, Ok(want)))?
-        });
+        let followed = Table::build(rule).and_then(|table| table.follow(letters));
+        let fault = unlike(walked, Ok(want))
+            .or_else(|| unlike(followed, Ok(want)))
+            .or_else(|| {
+                let judged = gongcollar::judge(rule, letters);
+                (letters.len() <= JUDGED).then(|| unlike(judged, Ok(want)))?
+            });
         let fault =
             fault.map(|text| format!("rule {}, letters {}: {text}", hex(rule), hex(letters)));
         let outcome = Outcome::Answer(yes_or_no(want));

@@ -2,8 +2,9 @@
 //!
 //! A rule is a sequence expression of PSL, and a model a small set of states with letters and successors; both are
 //! given as bytes in the house form. [`Workspace::search`] tells whether some run of the model spells a sequence that
-//! the rule accepts, and shows the first shortest one. A [`Table`] and a [`Walker`] follow events as they come, and
-//! [`judge`] decides a short sequence with no table. Bad input is a [`Refusal`] with its number and its place.
+//! the rule accepts, and shows the first shortest one. A [`Table`] and a [`Walker`] follow events as they come,
+//! [`Table::follow`] decides a whole sequence, and [`judge`] a short one with no table. Bad input is a [`Refusal`] with
+//! its number and its place.
 //!
 //! This crate is a thin layer over the proved static library. What it adds is Rust's types: nothing is decided here.
 //!
@@ -24,7 +25,7 @@ pub use lines::{rulecheck, rulecheck_into};
 pub use models::{read_model, search_into, Lent, ModelInfo, Searched, Workspace};
 pub use refusal::Refusal;
 pub use rules::{judge, read_rule, RuleInfo};
-pub use tables::{build_into, Built, Stepped, Table, Walker};
+pub use tables::{build_into, follow, Built, Stepped, Table, Walker};
 
 /// The most states that a table or a model has.
 pub const STATES: usize = 64;

@@ -60,6 +60,18 @@ pub struct Stepped {
     pub matched: u64,
 }
 
+/// What `gc_follow` answers.
+#[repr(C)]
+#[derive(Debug, Clone, Copy, Default, PartialEq, Eq)]
+pub struct Moved {
+    /// 0 for an answer, else the refusal's number.
+    pub refused: u64,
+    /// Where the refusal is.
+    pub place: u64,
+    /// 1 if a final state is in the set at the end, else 0.
+    pub matches: u64,
+}
+
 /// What `gc_read_model` answers.
 #[repr(C)]
 #[derive(Debug, Clone, Copy, Default, PartialEq, Eq)]
@@ -102,7 +114,7 @@ pub struct Lent<'a> {
 }
 
 mod c {
-    use super::{Built, Judged, Model, Rule, Searched, Stepped};
+    use super::{Built, Judged, Model, Moved, Rule, Searched, Stepped};
 
     extern "C" {
         pub fn gc_read_rule(rule: *const u8, rule_len: usize) -> Rule;
@@ -125,6 +137,13 @@ mod c {
             table_len: usize,
             letter: u8,
         ) -> Stepped;
+        pub fn gc_follow(
+            table: *const u64,
+            table_len: usize,
+            finals: u64,
+            letters: *const u8,
+            letters_len: usize,
+        ) -> Moved;
         pub fn gc_read_model(model: *const u8, model_len: usize) -> Model;
         pub fn gc_search(
             rule: *const u8,
@@ -154,9 +173,9 @@ mod c {
 
 /// The second slice, or a copy of it where it shares bytes with the first, which safe code may ask for and the header
 /// does not allow.
-fn apart<'a>(first: &[u8], second: &'a [u8]) -> Cow<'a, [u8]> {
+fn apart<'a, T>(first: &[T], second: &'a [u8]) -> Cow<'a, [u8]> {
     let (a, b) = (first.as_ptr_range(), second.as_ptr_range());
-    if a.start < b.end && b.start < a.end {
+    if a.start.cast() < b.end && b.start < a.end.cast() {
         Cow::Owned(second.to_vec())
     } else {
         Cow::Borrowed(second)
@@ -186,6 +205,21 @@ pub fn judge(rule: &[u8], letters: &[u8]) -> Judged {
 pub fn step(set: u64, finals: u64, table: &[u64], letter: u8) -> Stepped {
     // SAFETY: one slice that is only read.
     unsafe { c::gc_step(set, finals, table.as_ptr(), table.len(), letter) }
+}
+
+/// `gc_follow`: whether a fresh walker matches at the end of a whole sequence.
+pub fn follow(table: &[u64], finals: u64, letters: &[u8]) -> Moved {
+    let letters = apart(table, letters);
+    // SAFETY: two slices that are only read, and that do not overlap.
+    unsafe {
+        c::gc_follow(
+            table.as_ptr(),
+            table.len(),
+            finals,
+            letters.as_ptr(),
+            letters.len(),
+        )
+    }
 }
 
 /// `gc_read_model`: what is known of a model.
@@ -235,6 +269,37 @@ mod tests {
         assert!(matches!(apart(&bytes[..5], &bytes[4..]), Cow::Owned(_)));
         assert!(matches!(apart(&bytes, &bytes[2..3]), Cow::Owned(_)));
         assert_eq!(*apart(&bytes, &bytes), bytes);
-        assert!(matches!(apart(&[], &[]), Cow::Borrowed(_)));
+        assert!(matches!(apart::<u8>(&[], &[]), Cow::Borrowed(_)));
+    }
+
+    /// The header says so; Rust's own empty slices are never null.
+    #[test]
+    fn null_with_the_count_0_is_a_slice() {
+        use std::ptr::{null, null_mut};
+        let mut lent = Lent {
+            table: &mut [],
+            work1: &mut [],
+            work2: &mut [],
+            run: &mut [],
+        };
+        let empty = [0x11];
+        let rule = (empty.as_ptr(), empty.len());
+        let (n, m) = (null(), null_mut());
+        // SAFETY: NULL with the count 0 is a slice.
+        unsafe {
+            assert_eq!(c::gc_read_rule(n, 0), read_rule(&[]));
+            assert_eq!(c::gc_build(n, 0, null_mut(), 0), build(&[], &mut []));
+            let built = c::gc_build(rule.0, rule.1, null_mut(), 0);
+            assert_eq!(built, build(&empty, &mut []));
+            assert_eq!(c::gc_judge(rule.0, rule.1, n, 0), judge(&empty, &[]));
+            assert_eq!(c::gc_step(1, 1, null(), 0, 0), step(1, 1, &[], 0));
+            assert_eq!(c::gc_follow(null(), 0, 1, n, 0), follow(&[], 1, &[]));
+            assert_eq!(c::gc_read_model(n, 0), read_model(&[]));
+            let (w1, w2) = (null_mut(), null_mut());
+            let searched = c::gc_search(rule.0, rule.1, n, 0, null_mut(), 0, w1, 0, w2, 0, m, 0);
+            assert_eq!(searched, search(&empty, &[], &mut lent));
+            assert_eq!(c::gc_rulecheck(n, 0, m, 0), 0);
+        }
+        assert_eq!(judge(&empty, &[]).accepts, 1);
     }
 }

@@ -89,12 +89,36 @@ impl Table {
     pub fn walker(&self) -> Walker {
         Walker::start(self.finals())
     }
+
+    /// Whether the table's rule accepts the letters, of which there may be any number.
+    pub fn follow(&self, letters: &[u8]) -> Result<bool, Refusal> {
+        follow(self, self.finals(), letters)
+    }
 }
 
 impl AsRef<[u64]> for Table {
     fn as_ref(&self) -> &[u64] {
         &self.entries
     }
+}
+
+/// Whether a fresh walker matches after all the letters, over whatever labels are lent.
+///
+/// ```
+/// use gongcollar::{follow, Table};
+///
+/// // p0;p1
+/// let table = Table::build(&[0x12, 0x10, 0x01, 0x00, 0x10, 0x01, 0x01])?;
+/// assert!(table.follow(&[1, 2])?);
+/// assert!(!table.follow(&[1])?);
+///
+/// let refusal = follow(&table, table.finals(), &[1, 64]).unwrap_err();
+/// assert_eq!((refusal.number(), refusal.place()), (22, 1));
+/// # Ok::<(), gongcollar::Refusal>(())
+/// ```
+pub fn follow(table: impl AsRef<[u64]>, finals: u64, letters: &[u8]) -> Result<bool, Refusal> {
+    let answer = raw::follow(table.as_ref(), finals, letters);
+    Refusal::unless(answer.refused, answer.place, answer.matches != 0)
 }
 
 /// The set of states that a table may be in after some events, and the finals.

@@ -5,7 +5,7 @@
 
 use cases::{heavy, hostile, line_input, models};
 use differ::expected;
-use gongcollar::raw::{self, Built, Judged, Rule};
+use gongcollar::raw::{self, Built, Judged, Moved, Rule};
 use gongcollar::{Workspace, ENTRIES};
 use std::process::ExitCode;
 use std::thread;
@@ -22,6 +22,7 @@ type Searched = Result<(Option<Vec<u8>>, u64), (u64, u64)>;
 struct Said {
     read: Rule,
     built: Built,
+    followed: Moved,
     judged: Judged,
     searched: Searched,
     line: String,
@@ -32,9 +33,12 @@ fn by_library(rule: &[u8], model: &[u8]) -> Said {
         .search(rule, model)
         .map(|found| (found.run.map(<[u8]>::to_vec), found.pairs))
         .map_err(|refusal| (refusal.number(), refusal.place()));
+    let mut table = vec![0; ENTRIES];
+    let built = raw::build(rule, &mut table);
     Said {
         read: raw::read_rule(rule),
-        built: raw::build(rule, &mut vec![0; ENTRIES]),
+        built,
+        followed: raw::follow(&table, built.finals, &LETTERS),
         judged: raw::judge(rule, &LETTERS),
         searched,
         line: gongcollar::rulecheck(&line_input(rule, model)),
@@ -45,9 +49,12 @@ fn by_the_book(rule: &[u8], model: &[u8]) -> Said {
     let searched = plain::search(rule, model, [ENTRIES; 4])
         .map(|found| (found.run, found.pairs))
         .map_err(|refusal| (refusal.number, refusal.place));
+    let mut table = vec![0; ENTRIES];
+    let built = expected::build(rule, &mut table);
     Said {
         read: expected::read_rule(rule),
-        built: expected::build(rule, &mut vec![0; ENTRIES]),
+        built,
+        followed: expected::follow(&table, built.finals, &LETTERS),
         judged: expected::judge(rule, &LETTERS),
         searched,
         line: plain::line(&line_input(rule, model)),
@@ -78,7 +85,7 @@ fn main() -> ExitCode {
         return ExitCode::FAILURE;
     };
     println!(
-        "{count} hostile rules through five calls each on this stack, {wrong} answered wrongly"
+        "{count} hostile rules through six calls each on this stack, {wrong} answered wrongly"
     );
     ExitCode::from(u8::from(wrong > 0))
 }

@@ -1,94 +1,107 @@
-//! The crate declares what the header declares: the same answers, field by field, and the same calls.
+//! The header, `include/gongcollar.h`: what hosts declare from.
+
+use crate::interface::{bare, between, listed, part, Answer, Call, Interface, Part};
 
 const HEADER: &str = include_str!("../../../../include/gongcollar.h");
-const DECLARED: &str = include_str!("../../src/raw.rs");
 
-/// What stands between `open` and the next `close`, at each place where `open` stands.
-fn between<'a>(text: &'a str, open: &str, close: &str) -> Vec<&'a str> {
-    text.split(open)
-        .skip(1)
-        .map(|rest| rest.split(close).next().unwrap())
-        .collect()
+/// What the header declares.
+pub fn interface() -> Interface {
+    let text = code();
+    let answers = between(&text, "typedef struct { ", ";  ");
+    let answers = answers.into_iter().map(answer).collect();
+    let calls = text.split(";  ").filter_map(call).collect();
+    Interface::of(answers, calls)
 }
 
-/// The header without its comments, each run of blanks and line ends as one blank.
-fn bare_header() -> String {
+/// The declarations without comments and directives. Two blanks stand after each, one elsewhere.
+fn code() -> String {
     let parts = HEADER
         .split("/*")
         .map(|part| part.split_once("*/").map_or(part, |(_, rest)| rest));
     let lines = parts.collect::<String>();
     let code = lines.lines().filter(|line| !line.starts_with('#'));
-    let words = code.flat_map(str::split_whitespace).collect::<Vec<_>>();
-    words.join(" ")
-}
-
-/// `gc_rule` as `Rule`, `uint64_t` as `u64`.
-fn rust_type(c: &str) -> String {
-    match c {
-        "uint8_t" => "u8".into(),
-        "uint16_t" => "u16".into(),
-        "uint64_t" => "u64".into(),
-        "size_t" => "usize".into(),
-        answer => {
-            let name = answer.strip_prefix("gc_").unwrap();
-            name[..1].to_uppercase() + &name[1..]
+    let text = bare(&code.collect::<Vec<_>>().join("\n")).replace("extern \"C\" { ", "");
+    // The semicolons within a struct close no declaration.
+    let mut depth = 0;
+    let mut out = String::new();
+    for letter in text.chars() {
+        match letter {
+            '{' => depth += 1,
+            '}' => depth -= 1,
+            _ => {}
+        }
+        out.push(letter);
+        if letter == ';' && depth == 0 {
+            out.push(' ');
         }
     }
+    out
 }
 
-/// `const uint8_t *rule` as `rule: *const u8`.
-fn rust_parameter(c: &str) -> String {
-    let (kind, name) = c.rsplit_once(' ').unwrap();
-    match (kind.strip_prefix("const "), name.strip_prefix('*')) {
-        (Some(kind), Some(name)) => format!("{name}: *const {}", rust_type(kind)),
-        (None, Some(name)) => format!("{name}: *mut {}", rust_type(kind)),
-        _ => format!("{name}: {}", rust_type(kind)),
+/// `uint64_t refused, place; } gc_done`
+fn answer(text: &str) -> Answer {
+    let (fields, name) = text.split_once("} ").expect("a struct with a name");
+    let fields = fields.split("; ").filter(|group| !group.is_empty());
+    Answer {
+        name: name.to_string(),
+        fields: fields.flat_map(alike).collect(),
     }
 }
 
+/// `uint64_t refused, place`
+fn alike(group: &str) -> Vec<Part> {
+    let (kind, names) = group.split_once(' ').expect("fields of a type");
+    listed(names).map(|name| part(name, kind)).collect()
+}
+
+/// `gc_rule gc_read_rule(const uint8_t *rule, size_t rule_len)`
+fn call(text: &str) -> Option<Call> {
+    let (head, parameters) = text.split_once('(')?;
+    let (answer, name) = head.rsplit_once(' ')?;
+    Some(Call {
+        name: name.to_string(),
+        parameters: listed(parameters.strip_suffix(')')?)
+            .map(parameter)
+            .collect(),
+        answer: answer.to_string(),
+    })
+}
+
+/// `const uint8_t *rule`
+fn parameter(text: &str) -> Part {
+    let at = text.rfind([' ', '*']).expect("a parameter with a type");
+    let (kind, name) = text.split_at(at + 1);
+    part(name, kind.trim())
+}
+
+/// Whoever changes these numbers has changed the page, which then has a new version.
 #[test]
-fn the_answers_are_the_headers() {
-    let header = bare_header();
-    let answers = between(&header, "typedef struct { uint64_t ", "; }");
-    let names = between(&header, "; } ", ";");
-    let expected = names.iter().zip(&answers).map(|(name, fields)| {
-        let fields = fields.split(", ").map(|field| format!("{field}: u64"));
-        (rust_type(name), fields.collect::<Vec<_>>())
-    });
-    let declared = between(DECLARED, "#[repr(C)]", "\n}")
-        .into_iter()
-        .map(|text| {
-            let name = between(text, "pub struct ", " {")[0].to_string();
-            let fields = between(text, "    pub ", ",").into_iter().map(String::from);
-            (name, fields.collect::<Vec<_>>())
-        });
-    assert_eq!(names.len(), 6);
-    assert_eq!(declared.collect::<Vec<_>>(), expected.collect::<Vec<_>>());
+fn the_version_goes_with_the_page() {
+    let version = between(HEADER, "#define GONGCOLLAR_VERSION ", "\n");
+    let Interface { answers, calls } = interface();
+    let fields = answers.iter().map(|answer| answer.fields.len()).sum();
+    let parameters = calls.iter().map(|call| call.parameters.len()).sum();
+    assert_eq!(version, ["2"]);
+    assert_eq!(
+        [answers.len(), fields, calls.len(), parameters],
+        [7, 25, 8, 38]
+    );
 }
 
 #[test]
-fn the_calls_are_the_headers() {
-    let header = bare_header();
-    let expected = header.split("; ").filter_map(|declaration| {
-        let (call, parameters) = declaration.split_once('(')?;
-        let words = call.split(' ').rev().take(2).collect::<Vec<_>>();
-        let parameters = parameters.strip_suffix(')')?.split(", ");
-        let parameters = parameters.map(rust_parameter).collect::<Vec<_>>();
-        let answer = rust_type(words[1]);
-        Some(format!(
-            "{}({}) -> {answer}",
-            words[0],
-            parameters.join(", ")
-        ))
-    });
-    let declared = between(DECLARED, "pub fn gc_", ";")
-        .into_iter()
-        .map(|call| {
-            let words = call.split_whitespace().collect::<Vec<_>>().join(" ");
-            let words = words.replace("( ", "(").replace(", )", ")");
-            format!("gc_{words}")
-        });
-    let expected = expected.collect::<Vec<_>>();
-    assert_eq!(expected.len(), 7);
-    assert_eq!(declared.collect::<Vec<_>>(), expected);
+fn the_header_is_read_as_it_is_written() {
+    let Interface { answers, calls } = interface();
+    let built = answers.iter().find(|answer| answer.name == "gc_built");
+    let word = "uint64_t";
+    let fields = ["refused", "place", "weight", "finals"].map(|name| part(name, word));
+    assert_eq!(built.map(|built| &built.fields[..]), Some(&fields[..]));
+    let build = calls.iter().find(|call| call.name == "gc_build").unwrap();
+    let parameters = [
+        part("rule", "const uint8_t *"),
+        part("rule_len", "size_t"),
+        part("table", "uint64_t *"),
+        part("table_len", "size_t"),
+    ];
+    assert_eq!(build.parameters, parameters);
+    assert_eq!(build.answer, "gc_built");
 }

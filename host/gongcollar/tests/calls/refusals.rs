@@ -4,9 +4,8 @@ use crate::inputs::{state, three_states, RULE};
 use cases::hostile::joined_left;
 use cases::line_input;
 use cases::rules::{ANY, P0};
-use gongcollar::{
-    build_into, judge, read_model, read_rule, rulecheck, Refusal, Table, Walker, Workspace,
-};
+use gongcollar::{build_into, follow, judge, read_model, read_rule, rulecheck};
+use gongcollar::{Refusal, Table, Walker, Workspace};
 use std::fmt::Debug;
 
 /// Faulty rules, with their refusals and the numbers of these.
@@ -146,6 +145,21 @@ fn a_refused_step_leaves_the_walker() {
     );
     refused(walker.step([], 0), Refusal::ShortSlice { place: 0 }, 21);
     assert_eq!(walker, before);
+}
+
+#[test]
+fn a_walk_is_refused_by_its_table_then_by_its_first_bad_letter() {
+    let table = Table::build(&RULE).unwrap();
+    for short in [0, 1, 4095] {
+        let entries = &table.entries()[..short];
+        for letters in [&[][..], &[64], &[1, 2, 4]] {
+            let refusal = Refusal::ShortSlice { place: 0 };
+            refused(follow(entries, table.finals(), letters), refusal, 21);
+        }
+    }
+    for (letters, place) in [(&[64][..], 0), (&[1, 255, 64], 1), (&[1, 2, 4, 64], 3)] {
+        refused(table.follow(letters), Refusal::EventLetter { place }, 22);
+    }
 }
 
 #[test]

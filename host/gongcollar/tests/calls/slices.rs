@@ -181,4 +181,10 @@ fn a_refusal_has_no_other_field() {
         ..Default::default()
     };
     assert_eq!(raw::step(5, 7, &[], 64), stepped);
+    let moved = raw::Moved {
+        refused: 22,
+        place: 1,
+        ..Default::default()
+    };
+    assert_eq!(raw::follow(&[u64::MAX; ENTRIES], 1, &[0, 64]), moved);
 }

@@ -4,13 +4,14 @@ use crate::inputs::{pair, state, three_states, two_of_three, P1, RULE};
 use cases::hostile::joined_left;
 use cases::rules::P0;
 use cases::{heavy, line_input, models};
-use gongcollar::{judge, read_model, read_rule, rulecheck, Refusal, Table, Walker, Workspace};
+use gongcollar::{follow, judge, read_model, read_rule, rulecheck};
+use gongcollar::{Refusal, Table, Walker, Workspace};
 
 const LABEL_P0: u64 = 0xAAAA_AAAA_AAAA_AAAA;
 const LABEL_P1: u64 = 0xCCCC_CCCC_CCCC_CCCC;
 const LABEL_P2: u64 = 0xF0F0_F0F0_F0F0_F0F0;
 
-/// Judge, table and walker all say whether the rule accepts the letters.
+/// Judge, table, walker and the whole walk all say whether the rule accepts the letters.
 fn accepts(rule: &[u8], letters: &[u8]) -> bool {
     let judged = judge(rule, letters).unwrap();
     let table = Table::build(rule).unwrap();
@@ -20,6 +21,7 @@ fn accepts(rule: &[u8], letters: &[u8]) -> bool {
         assert_eq!(matched, walker.matches());
     }
     assert_eq!(walker.matches(), judged);
+    assert_eq!(table.follow(letters), Ok(judged));
     judged
 }
 
@@ -71,6 +73,18 @@ fn the_worked_walk() {
     let after_both = after_p0.walker.step(table.entries(), 6).unwrap();
     assert_eq!(after_both.walker.set(), 1 << 3 | 1 << 5);
     assert!(after_both.matched);
+}
+
+#[test]
+fn whole_sequences_of_any_length() {
+    let table = Table::build(&RULE).unwrap();
+    let many = [vec![1], vec![2; 10_000], vec![4]].concat();
+    assert_eq!(table.follow(&many), Ok(true));
+    assert_eq!(table.follow(&many[1..]), Ok(false));
+    // Finals that are not the rule's: a fresh walker is in state 0, and that alone.
+    assert_eq!(follow(&table, 1, &[]), Ok(true));
+    assert_eq!(follow(&table, !1, &[]), Ok(false));
+    assert_eq!(follow(&table, 1 << 3, &many[..5]), Ok(true));
 }
 
 /// Two rows of 16 letters under `|`, which weigh 65.
@@ -142,4 +156,25 @@ fn a_long_run_is_printed_whole() {
     let states: Vec<String> = run.iter().map(u8::to_string).collect();
     let line = format!("found 1954 pairs 1955: {}", states.join(" "));
     assert_eq!(rulecheck(&line_input(&rule, &ring)), line);
+}
+
+#[test]
+fn calls_run_in_several_threads() {
+    let rule = heavy::cycle_then_p0(31);
+    let model = models::ring(64, Some(33));
+    let line = rulecheck(&line_input(&rule, &model));
+    let many = || {
+        let mut workspace = Workspace::new();
+        for _ in 0..3 {
+            assert_eq!(workspace.search(&rule, &model).unwrap().pairs, 1955);
+            assert_eq!(workspace.search(&RULE, &three_states()).unwrap().pairs, 3);
+            assert_eq!(rulecheck(&line_input(&rule, &model)), line);
+            assert!(accepts(&RULE, &[1, 2, 2, 4]));
+        }
+    };
+    std::thread::scope(|threads| {
+        for _ in 0..4 {
+            threads.spawn(many);
+        }
+    });
 }
