@@ -2,6 +2,7 @@
 
 mod generated;
 mod hard;
+mod labels;
 mod timing;
 
 use cases::draws::seed_given;
@@ -21,6 +22,7 @@ fn main() -> ExitCode {
         println!("Processor: {processor}");
     }
     generated::run(seed);
+    labels::run();
     ExitCode::from(u8::from(!hard::run()))
 }
 
