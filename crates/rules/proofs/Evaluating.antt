@@ -5,8 +5,7 @@ use mathlib.Core.Bool.{Bool, true, false, not}
 use mathlib.Core.List.{List}
 use native.Mathlib.Omega.{arith}
 use lib.ListN.{getD}
-use Rattle.bits.specs.Word.{bit, insert}
-use Rattle.bits.proofs.Laws.{word-step, word-skip}
+use Rattle.bits.specs.Word.{bit}
 use Rattle.rules.specs.declared.kinds.Junction.{Junction}
 use Rattle.rules.specs.declared.kinds.FormulaKind.the-variants.{Proposition, Truth, Falsity, Not, Join}
 use Rattle.rules.specs.declared.kinds.Kind.the-variants.{OfFormula}
@@ -14,7 +13,7 @@ use Rattle.rules.specs.declared.formulas.Held.{Held}
 use Rattle.rules.specs.Definition1.{Formula}
 use Rattle.rules.specs.Definition2.{holds, joined}
 use Rattle.rules.specs.Kinds.{kindOf}
-use Rattle.rules.specs.Walks.{HoldsAs, LabelUpTo}
+use Rattle.rules.specs.Walks.{HoldsAs}
 use Rattle.rules.proofs.Unique.{formula-of}
 
 module _ (s : List ℕ) (at x : ℕ) where
@@ -47,12 +46,3 @@ module _ (s : List ℕ) (at x : ℕ) where
       let o = ih (i .0) (i .2) (i .4) in
       let o′ = ih′ (i .1) e (rw (o .1) (i .5)) in
       (p ∙ rw (o .0, o′ .0) refl ∙ ap (λ (g : Formula). holds g x) (sym (i .3)), o′ .1)
-
--- one letter more of a label
-module _ (s : List ℕ) (at l x : ℕ) (h : Held) (held : HoldsAs s at x h) (known : LabelUpTo s at x l) where
-  pub letter-in : h .holds ≡ true → LabelUpTo s at (x + 1) (insert l x)
-  unfolding insert
-  letter-in t f e d = rw (known f e d) (word-step x (holds f) (sym (held f e d .0) ∙ t))
-
-  pub letter-out : h .holds ≡ false → LabelUpTo s at (x + 1) l
-  letter-out t f e d = known f e d ∙ word-skip x (holds f) (sym (held f e d .0) ∙ t)

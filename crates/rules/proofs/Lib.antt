@@ -4,6 +4,7 @@ pub mod Unique
 pub mod Walks
 pub mod Weighing
 pub mod Evaluating
+pub mod Labelling
 pub mod Finish
 pub mod Encode
 pub mod Stands

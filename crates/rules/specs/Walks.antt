@@ -1,6 +1,7 @@
 -- What the walks over a rule's bytes promise of whatever stands at a place. Assumes nothing: these are definitions.
 use Prim.Native.Nat.{ℕ, _+_, _<_, _≤_, min}
 use mathlib.Core.Path.{_≡_}
+use mathlib.Core.Bool.{Bool}
 use mathlib.Core.List.{List, _∷_}
 use lib.ListN.{length, getD, drop}
 use Rattle.bits.specs.Word.{word}
@@ -9,8 +10,10 @@ use Rattle.rules.specs.declared.ends.Read.{Read}
 use Rattle.rules.specs.declared.ends.Read.the-variants.{Ends, Refused}
 use Rattle.rules.specs.declared.weights.Weighed.{Weighed}
 use Rattle.rules.specs.declared.formulas.Held.{Held}
-use Rattle.rules.specs.Definition1.{Formula, Rule}
-use Rattle.rules.specs.Definition2.{letterCount, lastProposition, holds}
+use Rattle.rules.specs.declared.formulas.Labelled.{Labelled}
+use Rattle.rules.specs.declared.kinds.Junction.{Junction}
+use Rattle.rules.specs.Definition1.{Formula, prop, Rule}
+use Rattle.rules.specs.Definition2.{letterCount, lastProposition, joined, holds}
 use Rattle.rules.specs.Weight.{weightOf, countedTo}
 use Rattle.rules.specs.Refusals.{number, place}
 use Rattle.rules.specs.Reading.{Outcome, fault, Need, rule, formula, body, Value, Rest, scan}
@@ -55,3 +58,16 @@ LabelUpTo s at k l = (f : Formula) (e : ℕ) → FormulaAt s at f e → l ≡ wo
 
 abbrev pub LabelAs : List ℕ → ℕ → ℕ → Type 0
 LabelAs s at l = LabelUpTo s at letterCount l
+
+-- the label and the end
+abbrev pub LabelledAs : List ℕ → ℕ → Labelled → Type 0
+LabelledAs s at l = (f : Formula) (e : ℕ) → FormulaAt s at f e → (l .label ≡ word letterCount (holds f)) × (l .end ≡ e)
+
+-- entry i is the label of proposition i
+pub record PropositionLabels (labels : List ℕ) : Type 0 where
+  pub inside : lastProposition < length labels
+  pub entry : (i : ℕ) → i ≤ lastProposition → getD labels i 0 ≡ word letterCount (holds (prop i))
+
+-- of two labels, r is the label of the junction
+abbrev pub LabelsJoin : Junction → ℕ → ℕ → ℕ → Type 0
+LabelsJoin j a b r = (f g : ℕ → Bool) → a ≡ word letterCount f → b ≡ word letterCount g → r ≡ word letterCount (λ x. joined j (f x) (g x))

@@ -1,9 +1,8 @@
 // A formula that stands in the bytes: whether it holds in a letter, and its label.
-ghost use Prim.Native.Nat.{_<_, _+_};
 ghost use mathlib.Core.Path.{_≡_};
-ghost use Rattle.rules.specs.Definition2.{letterCount, joined};
+ghost use Rattle.rules.specs.Definition2.{joined};
 ghost use Rattle.rules.specs.Places.{GoodFormula};
-ghost use Rattle.rules.specs.Walks.{HoldsAs, LabelUpTo, LabelAs};
+ghost use Rattle.rules.specs.Walks.{HoldsAs, LabelAs, LabelledAs, LabelsJoin, PropositionLabels};
 use crate::kinds::FormulaKind;
 use crate::kinds::Junction;
 use crate::kinds::Kind;
@@ -11,9 +10,25 @@ use crate::kinds::kind_of;
 
 pub const LETTER_COUNT: usize = 64;
 
+// The labels of the propositions: bit x of entry i is bit i of x.
+const PROPOSITIONS: [u64; 6] = [
+    0xAAAA_AAAA_AAAA_AAAA,
+    0xCCCC_CCCC_CCCC_CCCC,
+    0xF0F0_F0F0_F0F0_F0F0,
+    0xFF00_FF00_FF00_FF00,
+    0xFFFF_0000_FFFF_0000,
+    0xFFFF_FFFF_0000_0000,
+];
+
 // Whether a formula holds in the letter, and the place after the formula.
 pub struct Held {
     pub holds: bool,
+    pub end: usize,
+}
+
+// A formula's label, and the place after the formula.
+pub struct Labelled {
+    pub label: u64,
     pub end: usize,
 }
 
@@ -23,6 +38,16 @@ fn join(j: Junction, a: bool, b: bool) -> bool
     match j {
         Junction::And => if a { b } else { false },
         Junction::Or => if a { true } else { b },
+    }
+}
+
+// The letters of both labels, or of either.
+fn join_labels(j: Junction, a: u64, b: u64) -> u64
+    ensures { λ r. ⌜ LabelsJoin j a b r ⌝ }
+{
+    match j {
+        Junction::And => a & b,
+        Junction::Or => a | b,
     }
 }
 
@@ -69,28 +94,55 @@ pub fn holds_at(rule: &[u8], at: usize, letter: u8) -> Held
     }
 }
 
-// The label of the letters below `letter`, with that letter tried too.
-fn try_letter(rule: &[u8], at: usize, label: u64, letter: usize) -> u64
-    requires { ⌜ GoodFormula (now rule) at × (letter < letterCount) ⌝ }
-    ensures { λ r. ⌜ (LabelUpTo (now (rule .entry)) at letter label → LabelUpTo (now (rule .entry)) at (letter + 1) r) ⌝ }
+// The label of the formula that stands at `at`, and the place after the formula. The labels of the propositions are lent: what is
+// made of them is the same whatever letters their bits are for.
+fn labelled_at(rule: &[u8], at: usize, propositions: &[u64]) -> Labelled
+    requires { ⌜ GoodFormula (now rule) at × PropositionLabels (now propositions) ⌝ }
+    ensures { λ r. ⌜ LabelledAs (now (rule .entry)) at r ⌝ }
 {
-    let h = holds_at(rule, at, letter as u8);
-    if h.holds {
-        return bits::with(label, letter);
+    let Kind::OfFormula(k) = kind_of(rule[at]) else {
+        return Labelled { label: 0, end: at };
+    };
+    match k {
+        FormulaKind::Proposition => {
+            let body = at + 1;
+            Labelled {
+                label: propositions[rule[body] as usize],
+                end: body + 1,
+            }
+        }
+        FormulaKind::Truth => Labelled {
+            label: !0,
+            end: at + 1,
+        },
+        FormulaKind::Falsity => Labelled {
+            label: 0,
+            end: at + 1,
+        },
+        FormulaKind::Not => {
+            let a = labelled_at(rule, at + 1, propositions);
+            Labelled {
+                label: !a.label,
+                end: a.end,
+            }
+        }
+        FormulaKind::Join(j) => {
+            let a = labelled_at(rule, at + 1, propositions);
+            let m = a.end;
+            let b = labelled_at(rule, m, propositions);
+            Labelled {
+                label: join_labels(j, a.label, b.label),
+                end: b.end,
+            }
+        }
     }
-    label
 }
 
-// The label of the formula that stands at `at`: the letters are tried one at a time.
+// The label of the formula that stands at `at`.
 pub fn label_at(rule: &[u8], at: usize) -> u64
     requires { ⌜ GoodFormula (now rule) at ⌝ }
     ensures { λ r. ⌜ LabelAs (now (rule .entry)) at r ⌝ }
 {
-    let mut label: u64 = 0;
-    let mut letter: usize = 0;
-    while letter < LETTER_COUNT {
-        label = try_letter(rule, at, label, letter);
-        letter += 1;
-    }
-    label
+    let a = labelled_at(rule, at, &PROPOSITIONS);
+    a.label
 }

@@ -3,6 +3,7 @@
 
 mod generated;
 mod hard;
+mod labels;
 mod stack;
 mod timing;
 
@@ -23,6 +24,7 @@ fn main() -> ExitCode {
         println!("Processor: {processor}");
     }
     generated::run(seed);
+    labels::run();
     let same = hard::run();
     let shallow = stack::run();
     ExitCode::from(u8::from(!(same && shallow)))

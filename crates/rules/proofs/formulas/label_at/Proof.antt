@@ -1,50 +1,21 @@
--- `rules::formulas::label_at` meets its contract. The invariant: the label is that of the letters tried. Assumes nothing.
-use Prim.Native.Nat.{_≤_, _-_}
-use mathlib.Core.Path.{_≡_}
-use native.Mathlib.Omega.{arith}
+-- `rules::formulas::label_at` meets its contract. The table that it lends is computed and compared as a whole. Assumes nothing.
+use mathlib.Core.Path.{refl}
 use borrow.Author.Needs.{needs}
-use Rattle.bits.proofs.Laws.{word-none}
-use Rattle.rules.specs.Definition2.{letterCount, holds}
-use Rattle.rules.specs.Walks.{LabelUpTo}
+use Rattle.bits.specs.Word.{bit, word}
+use Rattle.rules.specs.Definition2.{holds}
+use Rattle.rules.proofs.Labelling.{labelsFrom, is-table}
 use Rattle.rules.proofs.formulas.label_at.Statement.{statement}
 use Rattle.rules.proofs.formulas.label_at.Tie as tie
 
-abbrev Inv-loop : tie.InvT-loop
-Inv-loop rule at label₀ letter₀ label letter = (letter ≤ letterCount) × LabelUpTo rule at letter label
+slice-aggregate-labelled-at : tie.Need-slice-aggregate-labelled-at
+slice-aggregate-labelled-at c = search needs
 
-abbrev μ-loop : tie.MeasureT-loop
-μ-loop rule at label₀ letter₀ label letter = letterCount - letter
+labelled-at-requires : tie.Need-labelled-at-requires
+unfolding labelsFrom holds word bit
+labelled-at-requires c κs = (c .before .before .pre, is-table _ refl)
 
-loop-holds : tie.Need-loop-holds Inv-loop μ-loop
-loop-holds c = (omega arith, λ f e d. word-none (holds f))
-
-try-letter-requires : tie.Need-try-letter-requires Inv-loop μ-loop
-try-letter-requires c κs = search needs
-
-add-letter : tie.Need-add-letter Inv-loop μ-loop
-add-letter c = search needs
-
-loop-less : tie.Need-loop-less Inv-loop μ-loop
-loop-less c = omega arith
-
-loop-again : tie.Need-loop-again Inv-loop μ-loop
-loop-again c = (omega arith, c .try-letter .ensures (c .before .before .loop .inv .1))
-
-returns : tie.Need-returns Inv-loop μ-loop
-returns c =
-    let a = c .before .before .before .args in
-    let e : c .before .loop .letter ≡ letterCount = omega arith in
-    rw e at (c .before .loop .inv .1)
+returns : tie.Need-returns
+returns c f e d = c .labelled-at .ensures f e d .0
 
 pub label-at-spec : {M : Type 1} → statement M
-label-at-spec =
-    tie.close
-    (tie.spec
-    Inv-loop
-    μ-loop
-    loop-holds
-    try-letter-requires
-    add-letter
-    loop-less
-    loop-again
-    returns)
+label-at-spec = tie.close (tie.spec slice-aggregate-labelled-at labelled-at-requires returns)
