@@ -138,11 +138,19 @@ fn labelled_at(rule: &[u8], at: usize, propositions: &[u64]) -> Labelled
     }
 }
 
+// The label of the formula that stands at `at`, and the place after the formula.
+pub fn label_and_end(rule: &[u8], at: usize) -> Labelled
+    requires { ⌜ GoodFormula (now rule) at ⌝ }
+    ensures { λ r. ⌜ LabelledAs (now (rule .entry)) at r ⌝ }
+{
+    labelled_at(rule, at, &PROPOSITIONS)
+}
+
 // The label of the formula that stands at `at`.
 pub fn label_at(rule: &[u8], at: usize) -> u64
     requires { ⌜ GoodFormula (now rule) at ⌝ }
     ensures { λ r. ⌜ LabelAs (now (rule .entry)) at r ⌝ }
 {
-    let a = labelled_at(rule, at, &PROPOSITIONS);
+    let a = label_and_end(rule, at);
     a.label
 }

@@ -1,7 +1,7 @@
 -- Laws for the walk that fills a table: what the kind byte tells of the rule at a place, and how its operands' blocks come to stand side by side. Assumes nothing.
 use Prim.Native.Nat.{ℕ, _+_, _<_, _≤_}
 use native.Mathlib.Omega.{arith}
-use mathlib.Core.Path.{_≡_, sym}
+use mathlib.Core.Path.{_≡_, refl, sym, subst}
 use mathlib.Core.List.{List}
 use lib.ListN.{length, getD}
 use Rattle.rules.specs.declared.kinds.Pair.{Pair}
@@ -11,19 +11,20 @@ use Rattle.rules.specs.declared.kinds.Kind.the-variants.{OfRule}
 use Rattle.rules.specs.Definition1.{Rule, two}
 use Rattle.rules.specs.Kinds.{kindOf}
 use Rattle.rules.specs.Places.{RuleAt}
-use Rattle.rules.specs.Walks.{LabelAs}
-use Rattle.rules.specs.Weight.{weightOf, pairWeight}
+use Rattle.rules.specs.declared.formulas.Labelled.{Labelled}
+use Rattle.rules.specs.Walks.{LabelledAs}
+use Rattle.rules.specs.Weight.{weightOf, pairWeight, weightLimit}
 use Rattle.rules.proofs.Scan.{rule-ends}
-use Rattle.rules.proofs.Unique.{rule-of}
+use Rattle.rules.proofs.Unique.{rule-of, rule-once}
 use Rattle.rules.proofs.Weighing.{weight-pos}
 use Rattle.tables.specs.declared.shape.Shape.{Shape}
 use Rattle.tables.specs.declared.fill.Place.{Place}
 use Rattle.tables.specs.declared.fill.Place.the-variants.{Nowhere, From}
 use Rattle.tables.specs.Table.{tableEntries}
 use Rattle.tables.specs.Cells.{Put, Clean}
-use Rattle.tables.specs.Block.{Built}
+use Rattle.tables.specs.Block.{Built, Beside}
 use Rattle.tables.specs.Shapes.{Fits, ShapeOf, ShapedAs}
-use Rattle.tables.specs.Building.{Ready, BuiltAt, Room, Joins, Repeats, Placed, nowhere, from, operandsFrom}
+use Rattle.tables.specs.Building.{Ready, BuiltAt, Room, Joins, Repeats, Placed, PlacedAt, nowhere, from, operandsFrom}
 use Rattle.tables.proofs.Shaping.{pair-weights}
 use Rattle.tables.proofs.Places.{beside, built-at, clean-on}
 use Rattle.tables.proofs.Singles.{empty-built, letter-built}
@@ -56,13 +57,13 @@ module _ (s : List ℕ) (at base : ℕ) (g : Fits s at base) where
   pub letter-room : kindOf (getD s at 0) ≡ OfRule Letter → base + 2 ≤ 64
   letter-room q = let i = rule-of s (OfRule Letter) (g .stands) q in rw (i .1) at (g .room)
 
-  pub letter-done : kindOf (getD s at 0) ≡ OfRule Letter → (t t₁ : List ℕ) (v : ℕ) → Ready t base → LabelAs s (at + 1) v
-      → Put t t₁ base (base + 1) (base + 1) (base + 1 + 1) (λ p q. v) → BuiltAt s at t t₁ base
-  letter-done q t t₁ v y is put = record {
+  pub letter-done : kindOf (getD s at 0) ≡ OfRule Letter → (t t₁ : List ℕ) (l : Labelled) → Ready t base → LabelledAs s (at + 1) l
+      → Put t t₁ base (base + 1) (base + 1) (base + 1 + 1) (λ p q. l .label) → BuiltAt s at t t₁ base
+  letter-done q t t₁ l y is put = record {
     built = λ x z d.
         let i = rule-of s (OfRule Letter) d q in
         let e : base + 1 + 1 ≡ base + 2 = omega arith in
-        rw (i .1) (letter-built t t₁ base v (i .0) (y .clean) (letter-room q) (is (i .0) z (i .2)) (rw e at put));
+        rw (i .1) (letter-built t t₁ base (l .label) (i .0) (y .clean) (letter-room q) (is (i .0) z (i .2) .0) (rw e at put));
   }
 
   pub empty-done : kindOf (getD s at 0) ≡ OfRule Empty → (t : List ℕ) → Ready t base → BuiltAt s at t t base
@@ -112,62 +113,117 @@ module _ {s : List ℕ} {at base : ℕ} {p : Pair} {h k : Shape} (w : TwoAt s at
         second-shape = w .second .told (i .1) e d₂;
       }
 
-  abbrev the : Operands s at p h k (w .fits .rule) (w .fits .past)
-  the = operands (w .fits .rule) (w .fits .past) (w .fits .stands)
-
-  -- the second operand stands further on
-  pub further : at + 1 < h .end
-  further = rule-ends s (the .first-stands) .0
-
   pub weights : (0 < h .weight) × (0 < k .weight) × (base + pairWeight p (h .weight) (k .weight) ≤ 64)
   weights = pair-weights s at base (w .fits) p (w .kind) h k (w .first) (w .second)
 
-  pub nowhere-step : {r : Place} → Placed p base (h .weight) (k .weight) r → r ≡ Nowhere → (t : List ℕ) → Ready t base → BuiltAt s at t t base
-  nowhere-step v e t y = record {
-    built = λ x z d.
-        let o = operands x z d in
-        rw (o .whole) (placed-nowhere p base (h .weight) (k .weight) (rw e at v) t (o .first) (o .second) (y .clean) (o .first-shape .weighs) (o .second-shape .weighs));
-  }
+-- ---- where its operands go, before they are built
 
--- its operands' blocks are to stand from lo on
-pub record LaidAt (s : List ℕ) (at base : ℕ) (p : Pair) (h k : Shape) (lo : ℕ) : Type 0 where
-  pub here : TwoAt s at base p h k
+-- an operator stands there, with these operands, whose blocks are to stand from lo on
+pub record LaidAt (s : List ℕ) (at base : ℕ) (p : Pair) (lo : ℕ) : Type 0 where
+  pub fits : Fits s at base
+  pub kind : kindOf (getD s at 0) ≡ OfRule (Two p)
+  pub first : Rule
+  pub second : Rule
+  pub mid : ℕ
+  pub whole : fits .rule ≡ two p first second
+  pub first-stands : RuleAt s (at + 1) first mid
+  pub second-stands : RuleAt s mid second (fits .past)
   pub starts : lo ≡ operandsFrom p base
   pub behind : base ≤ lo
-  pub inside : lo + (h .weight + k .weight) ≤ base + pairWeight p (h .weight) (k .weight)
+  pub inside : lo + (weightOf first + weightOf second) ≤ base + pairWeight p (weightOf first) (weightOf second)
 
-pub laid-at : {s : List ℕ} {at base : ℕ} {p : Pair} {h k : Shape} → TwoAt s at base p h k → {r : Place} {lo : ℕ} → Placed p base (h .weight) (k .weight) r → r ≡ From lo → LaidAt s at base p h k lo
-laid-at {base} {p} {h} {k} w {lo} v e = let z = placed-from p base (h .weight) (k .weight) lo (rw e at v) in record { here = w; starts = z .0; behind = z .1; inside = z .2 }
+module _ (s : List ℕ) (at base : ℕ) (g : Fits s at base) (p : Pair) (q : kindOf (getD s at 0) ≡ OfRule (Two p)) {r : Place} (v : PlacedAt s at p base r) where
+  pub laid-at : {lo : ℕ} → r ≡ From lo → LaidAt s at base p lo
+  laid-at {lo} e =
+      let i = rule-of s (OfRule (Two p)) (g .stands) q in
+      let z = placed-from p base (weightOf (i .0)) (weightOf (i .1)) lo (rw e at (v .placed (i .0) (i .1) (i .2) (g .past) (i .4) (i .5) (rw (i .3) at (g .room)))) in
+      record {
+        fits = g;
+        kind = q;
+        first = i .0;
+        second = i .1;
+        mid = i .2;
+        whole = i .3;
+        first-stands = i .4;
+        second-stands = i .5;
+        starts = z .0;
+        behind = z .1;
+        inside = z .2;
+      }
 
-module _ {s : List ℕ} {at base : ℕ} {p : Pair} {h k : Shape} {lo : ℕ} (w : LaidAt s at base p h k lo) where
-  abbrev parts : Operands s at p h k (w .here .fits .rule) (w .here .fits .past)
-  parts = the (w .here)
+  -- an operator that wants its operands nowhere has no label
+  pub nowhere-step : r ≡ Nowhere → (t : List ℕ) → Ready t base → BuiltAt s at t t base
+  nowhere-step e t y = record {
+    built = λ x z d.
+        let i = rule-of s (OfRule (Two p)) d q in
+        let l : base + pairWeight p (weightOf (i .0)) (weightOf (i .1)) ≤ weightLimit = rw (i .3) at (same-room x z d) in
+        rw (i .3) (placed-nowhere p base (weightOf (i .0)) (weightOf (i .1)) (rw e at (v .placed (i .0) (i .1) (i .2) z (i .4) (i .5) l)) t (i .0) (i .1) (y .clean) refl refl);
+  }
+    where
+      same-room : (x : Rule) (z : ℕ) → RuleAt s at x z → base + weightOf x ≤ weightLimit
+      same-room x z d = rw (rule-once s (g .stands) x z d .0) at (g .room)
 
-  pub room-both : (base ≤ lo) × (lo + (h .weight + k .weight) ≤ 64)
-  room-both = (w .behind, omega (arith, w .inside, weights (w .here) .2))
+module _ {s : List ℕ} {at base : ℕ} {p : Pair} {lo : ℕ} (w : LaidAt s at base p lo) where
+  room-all : lo + (weightOf (w .first) + weightOf (w .second)) ≤ 64
+  room-all = let l : base + pairWeight p (weightOf (w .first)) (weightOf (w .second)) ≤ weightLimit = rw (w .whole) at (w .fits .room) in omega (arith, w .inside)
+
+  pub lo-small : lo < 64
+  lo-small = let l = room-all in let h = weight-pos (w .first) in omega arith
 
   pub fits-lo : Fits s (at + 1) lo
-  fits-lo = record { rule = parts .first; past = h .end; stands = parts .first-stands; room = omega (arith, room-both, parts .first-shape .weighs) }
+  fits-lo = record { rule = w .first; past = w .mid; stands = w .first-stands; room = let l = room-all in omega arith }
 
-  pub fits-mid : Fits s (h .end) (lo + h .weight)
-  fits-mid = record { rule = parts .second; past = w .here .fits .past; stands = parts .second-stands; room = omega (arith, room-both, parts .second-shape .weighs) }
+  -- the first is built, and has this shape
+  module _ (h : Shape) (u : ShapedAs s (at + 1) h) where
+    abbrev shape : ShapeOf (w .first) (w .mid) h
+    shape = u .told (w .first) (w .mid) (w .first-stands)
 
-  pub ready-mid : (t t₁ : List ℕ) → Ready t base → length t₁ ≡ length t → BuiltAt s (at + 1) t t₁ lo → Ready t₁ (lo + h .weight)
-  ready-mid t t₁ y l b =
-      ready-on t t₁ lo (lo + h .weight) (parts .first) (ready-up t base lo y (room-both .0)) l (b .built (parts .first) (h .end) (parts .first-stands)) (omega (arith, parts .first-shape .weighs))
+    -- the second operand stands further on
+    pub further : at + 1 < h .end
+    further = let r = rule-ends s (w .first-stands) .0 in let e = shape .ends in omega arith
 
-  pub room-of : (t : List ℕ) → tableEntries ≤ length t → Room p h k t base
-  room-of t l =
-      let z = weights (w .here) in
-      record { long = l; first-some = z .0; second-some = z .1; square = z .2; inside = rw (w .starts) at (w .inside) }
+    pub mid-small : lo + h .weight < 64
+    mid-small = let l = room-all in let k = weight-pos (w .second) in let e = shape .weighs in omega arith
 
-  pub two-step : (t t₁ t₂ t₃ : List ℕ) → Ready t base → BuiltAt s (at + 1) t t₁ lo → BuiltAt s (h .end) t₁ t₂ (lo + h .weight) → Joins p h k t₂ t₃ base → BuiltAt s at t t₃ base
-  two-step t t₁ t₂ t₃ y b₁ b₂ j = record {
-    built = λ x z d.
-        let o = operands (w .here) x z d in
-        let l = room-both .1 in
-        let m = o .first-shape .weighs in
-        let s = beside t t₁ t₂ lo (o .first) (o .second) (omega arith) (b₁ .built (o .first) (h .end) (o .first-stands))
-        (built-at t₁ t₂ (lo + h .weight) (lo + weightOf (o .first)) (o .second) (omega arith) (b₂ .built (o .second) z (o .second-stands))) in
-        rw (o .whole) (j .joined t (o .first) (o .second) (h .end) z (y .clean) (o .first-shape) (o .second-shape) (rw (w .starts) at s));
-  }
+    pub fits-mid : Fits s (h .end) (lo + h .weight)
+    fits-mid = record {
+      rule = w .second;
+      past = w .fits .past;
+      stands = rw (shape .ends) (w .second-stands);
+      room = let l = room-all in let e = shape .weighs in omega arith;
+    }
+
+    pub ready-mid : (t t₁ : List ℕ) → Ready t base → length t₁ ≡ length t → BuiltAt s (at + 1) t t₁ lo → Ready t₁ (lo + h .weight)
+    ready-mid t t₁ y l b =
+        ready-on t t₁ lo (lo + h .weight) (w .first) (ready-up t base lo y (w .behind)) l (b .built (w .first) (w .mid) (w .first-stands)) (let e = shape .weighs in omega arith)
+
+    -- both are
+    module _ (k : Shape) (v : ShapedAs s (h .end) k) where
+      pub two-at : TwoAt s at base p h k
+      two-at = record { fits = w .fits; kind = w .kind; first = u; second = v }
+
+      abbrev next-shape : ShapeOf (w .second) (w .fits .past) k
+      next-shape = v .told (w .second) (w .fits .past) (rw (shape .ends) (w .second-stands))
+
+      pub room-of : (t : List ℕ) → tableEntries ≤ length t → Room p h k t base
+      room-of t l =
+          let z = weights two-at in
+          record {
+            long = l;
+            first-some = z .0;
+            second-some = z .1;
+            square = z .2;
+            inside = rw (w .starts) at (rw (sym (shape .weighs), sym (next-shape .weighs)) at (w .inside));
+          }
+
+      pub two-step : (t t₁ t₂ t₃ : List ℕ) → Ready t base → BuiltAt s (at + 1) t t₁ lo → BuiltAt s (h .end) t₁ t₂ (lo + h .weight) → Joins p h k t₂ t₃ base → BuiltAt s at t t₃ base
+      two-step t t₁ t₂ t₃ y b₁ b₂ j = record {
+        built = λ x z d.
+            let o = operands two-at x z d in
+            let l = room-all in
+            let m = o .first-shape .weighs in
+            let n = shape .weighs in
+            let s = beside t t₁ t₂ lo (o .first) (o .second) (omega arith) (b₁ .built (o .first) (h .end) (o .first-stands))
+            (built-at t₁ t₂ (lo + h .weight) (lo + weightOf (o .first)) (o .second) (omega arith) (b₂ .built (o .second) z (o .second-stands))) in
+            rw (o .whole) (j .joined t (o .first) (o .second) (h .end) z (y .clean) (o .first-shape) (o .second-shape) (subst (λ (c : ℕ). Beside t t₂ c (o .first) (o .second)) (w .starts) s));
+      }

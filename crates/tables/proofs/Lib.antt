@@ -23,6 +23,7 @@ pub mod Overlapping
 pub mod Pairing
 pub mod FinalSets
 pub mod Shaping
+pub mod Placing
 pub mod Building
 pub mod Tabling
 pub mod Beyonds

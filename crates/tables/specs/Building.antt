@@ -56,6 +56,11 @@ pub data Placed (p : Pair) (base m n : ℕ) : Place → Type 0 where
   nowhere : ((t : List ℕ) (x y : Rule) → Clean t base → m ≡ weightOf x → n ≡ weightOf y → Built t t base (two p x y)) → Placed p base m n Nowhere
   from : (lo : ℕ) → lo ≡ operandsFrom p base → base ≤ lo → lo + (m + n) ≤ base + pairWeight p m n → Placed p base m n (From lo)
 
+-- so for whatever operands stand behind the place
+pub record PlacedAt (s : List ℕ) (at : ℕ) (p : Pair) (base : ℕ) (r : Place) : Type 0 where
+  pub placed : (x y : Rule) (d e : ℕ) → RuleAt s (at + 1) x d → RuleAt s d y e → base + pairWeight p (weightOf x) (weightOf y) ≤ weightLimit
+      → Placed p base (weightOf x) (weightOf y) r
+
 -- the pairs stand in a table, and the operands in a copy of so many entries
 pub record PairsFit (s : Pairs) (entries : ℕ) : Type 0 where
   pub some : 0 < s .n

@@ -1,19 +1,25 @@
 // Fills in a rule's labels: each rule its own square of the table, from a base on, and nothing else. There is no tree in memory: operands are found again
 // in the bytes. The walk builds an operator's operands side by side; the operator itself works on their blocks and knows nothing of the walk.
-ghost use Prim.Native.Nat.{_+_, _<_, _≤_};
-ghost use Rattle.rules.specs.Weight.{pairWeight, weightLimit};
-ghost use Rattle.tables.specs.Shapes.{Fits};
-ghost use Rattle.tables.specs.Building.{Ready, Room, Joins, Placed, BuiltAt};
+ghost use mathlib.Core.Path.{_≡_};
+ghost use lib.ListN.{getD};
+ghost use Rattle.rules.specs.declared.kinds.Kind.the-variants.{OfRule};
+ghost use Rattle.rules.specs.declared.kinds.RuleKind.the-variants.{Two};
+ghost use Rattle.rules.specs.Kinds.{kindOf};
+ghost use Rattle.tables.specs.Shapes.{Fits, ShapedAs};
+ghost use Rattle.tables.specs.Building.{Ready, Room, Joins, PlacedAt, BuiltAt};
 use crate::cells::put;
 use crate::choice::either;
 use crate::link::again;
 use crate::link::then;
 use crate::overlap::overlap;
 use crate::product::both;
+use crate::shape::LETTER_FINALS;
 use crate::shape::Shape;
+use crate::shape::again_shape;
+use crate::shape::pair_shape;
 use crate::shape::shape_at;
 use crate::within::within;
-use rules::formulas::label_at;
+use rules::formulas::label_and_end;
 use rules::kinds::Kind;
 use rules::kinds::Pair;
 use rules::kinds::RuleKind;
@@ -27,10 +33,10 @@ pub enum Place {
 }
 
 // `|` and `&` have a state of their own before the operands. A table of one state has no label, and neither has its product; otherwise the operands of `&&`
-// fit side by side into the product's square.
-fn place_of(p: Pair, base: usize, m: usize, n: usize) -> Place
-    requires { ⌜ (0 < m) × (0 < n) × (base + pairWeight p m n ≤ weightLimit) ⌝ }
-    ensures { λ r. ⌜ Placed p base m n r ⌝ }
+// fit side by side into the product's square. For `&&` alone the operands are weighed before they are built.
+fn place_at(rule: &[u8], at: usize, p: Pair, base: usize) -> Place
+    requires { ⌜ Fits (now rule) at base × (kindOf (getD (now rule) at 0) ≡ OfRule (Two p)) ⌝ }
+    ensures { λ r. ⌜ PlacedAt (now (rule .entry)) at p base r ⌝ }
 {
     match p {
         Pair::Then => Place::From(base),
@@ -38,10 +44,13 @@ fn place_of(p: Pair, base: usize, m: usize, n: usize) -> Place
         Pair::Either => Place::From(base + 1),
         Pair::Within => Place::From(base + 1),
         Pair::Both => {
-            if m < 2 {
+            let a = shape_at(rule, at + 1);
+            let second = a.end;
+            let b = shape_at(rule, second);
+            if a.weight < 2 {
                 return Place::Nowhere;
             }
-            if n < 2 {
+            if b.weight < 2 {
                 return Place::Nowhere;
             }
             Place::From(base)
@@ -63,38 +72,41 @@ fn join(t: &mut [u64], base: usize, p: Pair, a: Shape, b: Shape)
     }
 }
 
-// The labels of the rule that stands at `at`, from base on, where there are none yet.
-pub fn build_at(rule: &[u8], at: usize, t: &mut [u64], base: usize)
+// The labels of the rule that stands at `at`, from base on, where there are none yet; and its shape.
+pub fn build_at(rule: &[u8], at: usize, t: &mut [u64], base: usize) -> Shape
     requires { ⌜ Fits (now rule) at base ⌝ }
     requires { ⌜ Ready (now t) base ⌝ }
-    ensures { λ _. ⌜ BuiltAt (now (rule .entry)) at (now (t .entry)) (now (t .exit)) base ⌝ }
+    ensures { λ r. ⌜ BuiltAt (now (rule .entry)) at (now (t .entry)) (now (t .exit)) base ⌝ }
+    ensures { λ r. ⌜ ShapedAs (now (rule .entry)) at r ⌝ }
 {
     match kind_of(rule[at]) {
-        Kind::Unknown => {}
-        Kind::OfFormula(_) => {}
+        Kind::Unknown => shape_at(rule, at),
+        Kind::OfFormula(_) => shape_at(rule, at),
         Kind::OfRule(k) => match k {
             RuleKind::Letter => {
-                let label = label_at(rule, at + 1);
-                put(t, base, base + 1, label);
+                let a = label_and_end(rule, at + 1);
+                put(t, base, base + 1, a.label);
+                Shape {
+                    end: a.end,
+                    weight: 2,
+                    finals: LETTER_FINALS,
+                }
             }
-            RuleKind::Empty => {}
-            RuleKind::Again(_) => {
-                let first = at + 1;
-                let a = shape_at(rule, first);
-                build_at(rule, first, t, base);
+            RuleKind::Empty => shape_at(rule, at),
+            RuleKind::Again(p) => {
+                let a = build_at(rule, at + 1, t, base);
                 again(t, base, a);
+                again_shape(p, a)
             }
             RuleKind::Two(p) => {
-                let first = at + 1;
-                let a = shape_at(rule, first);
-                let second = a.end;
-                let b = shape_at(rule, second);
-                let Place::From(lo) = place_of(p, base, a.weight, b.weight) else {
-                    return;
+                let Place::From(lo) = place_at(rule, at, p, base) else {
+                    return shape_at(rule, at);
                 };
-                build_at(rule, first, t, lo);
-                build_at(rule, second, t, lo + a.weight);
+                let a = build_at(rule, at + 1, t, lo);
+                let second = a.end;
+                let b = build_at(rule, second, t, lo + a.weight);
                 join(t, base, p, a, b);
+                pair_shape(p, a, b)
             }
         },
     }

@@ -43,8 +43,7 @@ pub fn build(rule: &[u8], table: &mut [u64]) -> TableAnswer
                 return TableAnswer::ShortTable;
             }
             clear::clear(table, 0, STATES);
-            fill::build_at(rule, 0, table, 0);
-            let shape = shape::shape_at(rule, 0);
+            let shape = fill::build_at(rule, 0, table, 0);
             TableAnswer::Tabled {
                 rule: known,
                 finals: shape.finals,

@@ -18,7 +18,7 @@ use rules::kinds::kind_of;
 // The empty sequence has one state, which is final; a letter has two, of which the second is.
 const EMPTY_FINALS: u64 = 1;
 
-const LETTER_FINALS: u64 = 2;
+pub const LETTER_FINALS: u64 = 2;
 
 // Where a rule ends in the bytes, how many states its table has, and which of them are final.
 pub struct Shape {
@@ -28,7 +28,7 @@ pub struct Shape {
 }
 
 // The shape of a repetition of a.
-fn again_shape(p: Repeat, a: Shape) -> Shape
+pub fn again_shape(p: Repeat, a: Shape) -> Shape
     ensures { λ r. ⌜ ((x : Rule) (e : ℕ) → ShapeOf x e a → ShapeOf (again p x) e r) ⌝ }
 {
     match p {
@@ -42,7 +42,7 @@ fn again_shape(p: Repeat, a: Shape) -> Shape
 }
 
 // The shape of an operator over a and b.
-fn pair_shape(p: Pair, a: Shape, b: Shape) -> Shape
+pub fn pair_shape(p: Pair, a: Shape, b: Shape) -> Shape
     requires { ⌜ (0 < a .weight) × (0 < b .weight) × (pairWeight p (a .weight) (b .weight) ≤ weightLimit) ⌝ }
     ensures { λ r. ⌜ ((x y : Rule) (d e : ℕ) → ShapeOf x d a → ShapeOf y e b → ShapeOf (two p x y) e r) ⌝ }
 {

@@ -29,11 +29,6 @@ build-at-requires c κs =
     let k = c .before .before .before .before .before .before .before .known .given .1 in
     (fits-whole s _ (r .read-rule .ensures) _ k, ready-whole _ _ (omega arith) (c .before .before .before .clear .kept .0) (c .before .before .before .clear .ensures))
 
-shape-at-requires : tie.Need-shape-at-requires
-shape-at-requires c κs =
-    let r = c .before .before .before .before .before .before .before .before .before .before .before .before in
-    fits-whole (r .before .before .before .args .rule .now) _ (r .read-rule .ensures) _ (c .before .before .before .before .before .before .before .before .before .before .known .given .1)
-
 returns-2 : tie.Need-returns-2
 returns-2 c =
     let r = c .before .before .before in
@@ -44,11 +39,11 @@ same-length c = search needs
 
 returns-3 : tie.Need-returns-3
 returns-3 c =
-    let r = c .before .before .before .before .before .before .before .before .before .before .before .before .before in
-    let b = c .before .before .before in
-    let l = c .before .before .before .before .before .before .before in
-    right-table (r .before .before .before .args .rule .now) _ (r .read-rule .ensures) _ (c .before .before .before .before .before .before .before .before .before .before .before .known .given .1) _ _ _ (omega arith) (l .clear .ensures) (l .clear .kept .0)
-    (omega (arith, l .clear .kept .0, b .build-at .kept .1 .1 .0)) (b .build-at .ensures) (c .shape-at .result) (c .shape-at .ensures) (omega (arith, c .shape-at .ok))
+    let r = c .before .before .before .before .before .before .before .before .before .before .before .before in
+    let b = c .before .before in
+    let l = c .before .before .before .before .before .before in
+    right-table (r .before .before .before .args .rule .now) _ (r .read-rule .ensures) _ (c .before .before .before .before .before .before .before .before .before .before .known .given .1) _ _ _ (omega arith) (l .clear .ensures) (l .clear .kept .0)
+    (omega (arith, l .clear .kept .0, b .build-at .kept .1 .1 .0)) (b .build-at .ensures .0) (b .build-at .result) (b .build-at .ensures .1) (omega (arith, b .build-at .ok))
 
 pub build-spec : {M : Type 1} → statement M
 build-spec =
@@ -60,7 +55,6 @@ build-spec =
     returns
     clear-requires
     build-at-requires
-    shape-at-requires
     returns-2
     same-length
     returns-3)

@@ -12,19 +12,21 @@ use Rattle.rules.specs.Places.{GoodRule}
 use Rattle.rules.proofs.Walks.{rule-here, not-unknown, not-formula, good-letter}
 use Rattle.tables.specs.Shapes.{Fits}
 use Rattle.tables.specs.Building.{Ready}
-use Rattle.tables.proofs.Shaping.{stands-good, fits-again, fits-first, fits-second}
-use Rattle.tables.proofs.Building.{base-small, fits-zero, shape-room, letter-room, letter-done, empty-done, again-step, TwoAt, further, weights, nowhere-step, LaidAt, laid-at, room-both, fits-lo, fits-mid, ready-up, ready-mid, room-of, two-step}
+use Rattle.tables.proofs.Shaping.{stands-good, fits-again, shaped-letter, shaped-again, shaped-two}
+use Rattle.tables.proofs.Building.{base-small, fits-zero, shape-room, letter-room, letter-done, empty-done, again-step, nowhere-step, LaidAt, laid-at, fits-lo, further, mid-small, fits-mid, ready-up, ready-mid, two-at, weights, room-of, two-step}
 use borrow.Fn.Kinds.{In}
 use borrow.Fn.PlainCycle.{Measures, is, falls, and}
 use Rattle.tables.proofs.fill.build_at.Reads as build-at
 use Rattle.tables.proofs.fill.build_at.Kinds as build-at-kinds
 use Rattle.tables.proofs.fill.+build_at.Lts-build_at as build-at-lts
-use Rattle.rules.proofs.formulas.label_at.Reads as label-at-reads
+use Rattle.rules.proofs.formulas.label_and_end.Reads as label-and-end-reads
 use Rattle.rules.proofs.kinds.kind_of.Reads as kind-of-reads
 use Rattle.tables.proofs.cells.put.Reads as put-reads
 use Rattle.tables.proofs.fill.join.Reads as join-reads
-use Rattle.tables.proofs.fill.place_of.Reads as place-of-reads
+use Rattle.tables.proofs.fill.place_at.Reads as place-at-reads
 use Rattle.tables.proofs.link.again.Reads as again-reads
+use Rattle.tables.proofs.shape.again_shape.Reads as again-shape-reads
+use Rattle.tables.proofs.shape.pair_shape.Reads as pair-shape-reads
 use Rattle.tables.proofs.shape.shape_at.Reads as shape-at-reads
 use Rattle.tables.proofs.fill.+build_at.{statement}
 use Rattle.tables.proofs.fill.+build_at.Tie.{close}
@@ -40,7 +42,7 @@ module _ (t : ℕ) where
   below = and 2 build-at-kinds.ps (falls 2 build-at-kinds.ps _<_ μ-build-at t) build-at.Pre
 
   abbrev calls : build-at-lts.Claims
-  calls = (kind-of-reads.Asked, kind-of-reads.Learnt, label-at-reads.Asked, label-at-reads.Learnt, put-reads.Asked, put-reads.Learnt, shape-at-reads.Asked, shape-at-reads.Learnt, below, build-at.Post, again-reads.Asked, again-reads.Learnt, place-of-reads.Asked, place-of-reads.Learnt, join-reads.Asked, join-reads.Learnt)
+  calls = (kind-of-reads.Asked, kind-of-reads.Learnt, shape-at-reads.Asked, shape-at-reads.Learnt, label-and-end-reads.Asked, label-and-end-reads.Learnt, put-reads.Asked, put-reads.Learnt, below, build-at.Post, again-reads.Asked, again-reads.Learnt, again-shape-reads.Asked, again-shape-reads.Learnt, place-at-reads.Asked, place-at-reads.Learnt, join-reads.Asked, join-reads.Learnt, pair-shape-reads.Asked, pair-shape-reads.Learnt)
 
   abbrev Start : Type 0
   Start = build-at-lts.Start calls pre build-at.Post
@@ -79,38 +81,34 @@ module _ (t : ℕ) where
     letter-kind : kind letter-start ≡ OfRule Letter
     letter-kind = of-rule (c .before .before) ∙ ap OfRule (c .enum-told3 .given .1)
 
-  module _ (c : build-at-lts.After-enum-told5 calls pre build-at.Post) where
+  module _ (c : build-at-lts.After-known-told2 calls pre build-at.Post) where
     abbrev again-start : Start
-    again-start = rule-start (c .before .before)
+    again-start = rule-start (c .before .before .before)
 
-    again-kind : kind again-start ≡ OfRule (Again (c .enum-told5 .given .0 .0))
-    again-kind = of-rule (c .before .before) ∙ ap OfRule (c .enum-told5 .given .1)
+    again-kind : kind again-start ≡ OfRule (Again (c .before .k2 .given .0 .0))
+    again-kind = of-rule (c .before .before .before) ∙ ap OfRule (c .before .k2 .given .1)
 
     operand-fits : Fits (again-start .args .rule .now) (again-start .args .at + 1) (again-start .args .base)
     operand-fits = fits-again _ _ _ (fits again-start) _ again-kind
 
-  module _ (c : build-at-lts.After-known-told2 calls pre build-at.Post) where
+  module _ (c : build-at-lts.After-known-told3 calls pre build-at.Post) where
     abbrev two-start : Start
     two-start = rule-start (c .before .before .before)
 
-    two-kind : kind two-start ≡ OfRule (Two (c .before .k2 .given .0 .0))
-    two-kind = of-rule (c .before .before .before) ∙ ap OfRule (c .before .k2 .given .1)
+    two-kind : kind two-start ≡ OfRule (Two (c .before .k3 .given .0 .0))
+    two-kind = of-rule (c .before .before .before) ∙ ap OfRule (c .before .k3 .given .1)
 
-  -- ---- an operator, with its operands' shapes, and with the place of its operands
+  -- ---- an operator, with the place of its operands
 
-  two-here : (c : build-at-lts.After-shape-at3 calls pre build-at.Post)
-      → TwoAt (two-start (c .before .before) .args .rule .now) (two-start (c .before .before) .args .at) (two-start (c .before .before) .args .base) (c .before .before .before .k2 .given .0 .0) (c .before .shape-at2 .result) (c .shape-at3 .result)
-  two-here c = record { fits = fits (two-start (c .before .before)); kind = two-kind (c .before .before); first = c .before .shape-at2 .ensures; second = c .shape-at3 .ensures }
-
-  module _ (c : build-at-lts.After-known-told3 calls pre build-at.Post) where
-    abbrev shapes : build-at-lts.After-shape-at3 calls pre build-at.Post
-    shapes = c .before .before .before .before
+  module _ (c : build-at-lts.After-known-told4 calls pre build-at.Post) where
+    abbrev operator : build-at-lts.After-known-told3 calls pre build-at.Post
+    operator = c .before .before .before .before
 
     abbrev laid-start : Start
-    laid-start = two-start (shapes .before .before)
+    laid-start = two-start operator
 
-    laid : LaidAt (laid-start .args .rule .now) (laid-start .args .at) (laid-start .args .base) (shapes .before .before .before .k2 .given .0 .0) (shapes .before .shape-at2 .result) (shapes .shape-at3 .result) (c .before .lo .given .0 .0)
-    laid = laid-at (two-here shapes) (c .before .before .before .place-of .ensures) (c .before .lo .given .1)
+    laid : LaidAt (laid-start .args .rule .now) (laid-start .args .at) (laid-start .args .base) (operator .before .k3 .given .0 .0) (c .before .lo .given .0 .0)
+    laid = laid-at _ _ _ (fits laid-start) _ (two-kind operator) (c .before .before .before .place-at .ensures) (c .before .lo .given .1)
 
   -- ---- what is left to show
 
@@ -123,8 +121,14 @@ module _ (t : ℕ) where
   enum-told : build-at-lts.Need-enum-told calls pre build-at.Post
   enum-told c = search needs
 
+  shape-at-requires : build-at-lts.Need-shape-at-requires calls pre build-at.Post
+  shape-at-requires c κs = fits-zero _ _ _ (fits (c .before .before .before .before .before .before))
+
   enum-told-2 : build-at-lts.Need-enum-told-2 calls pre build-at.Post
   enum-told-2 c = search needs
+
+  shape-at-requires-2 : build-at-lts.Need-shape-at-requires-2 calls pre build-at.Post
+  shape-at-requires-2 c κs = fits-zero _ _ _ (fits (c .before .before .before .before .before .before))
 
   enum-known-k : build-at-lts.Need-enum-known-k calls pre build-at.Post
   enum-known-k c = search needs
@@ -132,135 +136,101 @@ module _ (t : ℕ) where
   enum-told-3 : build-at-lts.Need-enum-told-3 calls pre build-at.Post
   enum-told-3 c = search needs
 
-  add-label-at : build-at-lts.Need-add-label-at calls pre build-at.Post
-  add-label-at c = let h = here (letter-start c) in omega arith
+  add-label-and-end : build-at-lts.Need-add-label-and-end calls pre build-at.Post
+  add-label-and-end c = let h = here (letter-start c) in omega arith
 
-  label-at-requires : build-at-lts.Need-label-at-requires calls pre build-at.Post
-  label-at-requires c κs = good-letter _ _ (good (letter-start c)) (letter-kind c)
+  label-and-end-requires : build-at-lts.Need-label-and-end-requires calls pre build-at.Post
+  label-and-end-requires c κs = good-letter _ _ (good (letter-start c)) (letter-kind c)
 
   add-put : build-at-lts.Need-add-put calls pre build-at.Post
   add-put c = let h = here (letter-start (c .before .before)) in omega arith
 
   put-requires : build-at-lts.Need-put-requires calls pre build-at.Post
-  put-requires c κs =
-      let k = c .before .before in
-      omega (arith, ready (letter-start k) .long, letter-room _ _ _ (fits (letter-start k)) (letter-kind k))
+  put-requires c κs = let k = c .before .before in omega (arith, ready (letter-start k) .long, letter-room _ _ _ (fits (letter-start k)) (letter-kind k))
 
   enum-told-4 : build-at-lts.Need-enum-told-4 calls pre build-at.Post
   enum-told-4 c = search needs
 
-  enum-told-5 : build-at-lts.Need-enum-told-5 calls pre build-at.Post
-  enum-told-5 c = search needs
-
-  add-first : build-at-lts.Need-add-first calls pre build-at.Post
-  add-first c = let h = here (again-start c) in omega arith
-
-  shape-at-requires : build-at-lts.Need-shape-at-requires calls pre build-at.Post
-  shape-at-requires c κs = fits-zero _ _ _ (operand-fits c)
-
-  build-at-requires : build-at-lts.Need-build-at-requires calls pre build-at.Post
-  build-at-requires c κs =
-      let k = c .before .before in
-      let h = here (again-start k) in
-      (omega arith, (operand-fits k, ready (again-start k)))
-
-  again-requires : build-at-lts.Need-again-requires calls pre build-at.Post
-  again-requires c κs =
-      let b = c .before .before .before in
-      let k = b .before .before .before in
-      omega (arith, ready (again-start k) .long, b .build-at .kept .1 .1 .0, shape-room _ _ _ (operand-fits k) _ (b .before .before .shape-at .ensures))
+  shape-at-requires-3 : build-at-lts.Need-shape-at-requires-3 calls pre build-at.Post
+  shape-at-requires-3 c κs = fits-zero _ _ _ (fits (rule-start (c .before .before)))
 
   enum-known-k-2 : build-at-lts.Need-enum-known-k-2 calls pre build-at.Post
   enum-known-k-2 c = search needs
 
-  add-first-2 : build-at-lts.Need-add-first-2 calls pre build-at.Post
-  add-first-2 c = let h = here (two-start c) in omega arith
+  add-build-at : build-at-lts.Need-add-build-at calls pre build-at.Post
+  add-build-at c = let h = here (again-start c) in omega arith
 
-  shape-at-requires-2 : build-at-lts.Need-shape-at-requires-2 calls pre build-at.Post
-  shape-at-requires-2 c κs = fits-zero _ _ _ (fits-first _ _ _ (fits (two-start c)) _ (two-kind c))
+  build-at-requires : build-at-lts.Need-build-at-requires calls pre build-at.Post
+  build-at-requires c κs = let k = c .before in let h = here (again-start k) in (omega (arith, again-start k .pre .0), (operand-fits k, ready (again-start k)))
 
-  shape-at-requires-3 : build-at-lts.Need-shape-at-requires-3 calls pre build-at.Post
-  shape-at-requires-3 c κs = fits-zero _ _ _ (fits-second _ _ _ (fits (two-start (c .before))) _ (two-kind (c .before)) _ (c .shape-at2 .ensures) .0)
+  again-requires : build-at-lts.Need-again-requires calls pre build-at.Post
+  again-requires c κs = let b = c .before .before .before in let k = b .before .before in omega (arith, ready (again-start k) .long, b .build-at .kept .1 .1 .0, shape-room _ _ _ (operand-fits k) _ (b .build-at .ensures .1))
 
-  place-of-requires : build-at-lts.Need-place-of-requires calls pre build-at.Post
-  place-of-requires c κs = weights (two-here c)
+  again-shape-requires : build-at-lts.Need-again-shape-requires calls pre build-at.Post
+  again-shape-requires c κs = search needs
+
+  enum-known-k-3 : build-at-lts.Need-enum-known-k-3 calls pre build-at.Post
+  enum-known-k-3 c = search needs
+
+  place-at-requires : build-at-lts.Need-place-at-requires calls pre build-at.Post
+  place-at-requires c κs = (fits (two-start c), two-kind c)
 
   enum-known-lo : build-at-lts.Need-enum-known-lo calls pre build-at.Post
   enum-known-lo c = search needs
 
-  enum-told-6 : build-at-lts.Need-enum-told-6 calls pre build-at.Post
-  enum-told-6 c = search needs
+  enum-told-5 : build-at-lts.Need-enum-told-5 calls pre build-at.Post
+  enum-told-5 c = search needs
+
+  shape-at-requires-4 : build-at-lts.Need-shape-at-requires-4 calls pre build-at.Post
+  shape-at-requires-4 c κs = fits-zero _ _ _ (fits (two-start (c .before .before .before)))
 
   returns : build-at-lts.Need-returns calls pre build-at.Post
-  returns c =
-      let p = c .before .before in
-      nowhere-step (two-here (p .before)) (p .place-of .ensures) (c .enum-told6 .given .1) _ (ready (two-start (p .before .before .before)))
+  returns c = let k = c .before .before .before .before in (nowhere-step _ _ _ (fits (two-start k)) _ (two-kind k) (c .before .before .before .place-at .ensures) (c .before .enum-told5 .given .1) _ (ready (two-start k)), c .shape-at4 .ensures)
+
+  add-build-at-2 : build-at-lts.Need-add-build-at-2 calls pre build-at.Post
+  add-build-at-2 c = let h = here (two-start (c .before .before .before .before)) in omega arith
 
   build-at-requires-2 : build-at-lts.Need-build-at-requires-2 calls pre build-at.Post
-  build-at-requires-2 c κs =
-      let k = c .before in
-      let h = here (laid-start k) in
-      (omega (arith, laid-start k .pre .0), (fits-lo (laid k), ready-up _ _ _ (ready (laid-start k)) (room-both (laid k) .0)))
+  build-at-requires-2 c κs = let k = c .before in let h = here (laid-start k) in (omega (arith, laid-start k .pre .0), (fits-lo (laid k), ready-up _ _ _ (ready (laid-start k)) (laid k .behind)))
 
-  add-build-at : build-at-lts.Need-add-build-at calls pre build-at.Post
-  add-build-at c = let k = room-both (laid (c .before .before .before .before .before .before)) in omega arith
+  add-build-at-3 : build-at-lts.Need-add-build-at-3 calls pre build-at.Post
+  add-build-at-3 c = let k = c .before .before .before .before .before .before in let h = mid-small (laid k) _ (c .before .before .before .before .build-at2 .ensures .1) in omega arith
 
   build-at-requires-3 : build-at-lts.Need-build-at-requires-3 calls pre build-at.Post
-  build-at-requires-3 c κs =
-      let b = c .before .before .before .before in
-      let k = b .before .before in
-      let h = here (laid-start k) in
-      let l = further (laid k .here) in
-      (omega (arith, laid-start k .pre .0), (fits-mid (laid k), ready-mid (laid k) _ _ (ready (laid-start k)) (b .build-at2 .kept .1 .1 .0) (b .build-at2 .ensures)))
+  build-at-requires-3 c κs = let a = c .before .before .before .before in let k = a .before .before in let h = here (laid-start k) in let l = further (laid k) _ (a .build-at2 .ensures .1) in (omega (arith, laid-start k .pre .0), (fits-mid (laid k) _ (a .build-at2 .ensures .1), ready-mid (laid k) _ (a .build-at2 .ensures .1) _ _ (ready (laid-start k)) (a .build-at2 .kept .1 .1 .0) (a .build-at2 .ensures .0)))
 
   join-requires : build-at-lts.Need-join-requires calls pre build-at.Post
-  join-requires c κs =
-      let b = c .before .before .before in
-      let a = b .before .before .before .before .before in
-      let k = a .before .before in
-      room-of (laid k) _ (omega (arith, ready (laid-start k) .long, b .build-at3 .kept .1 .1 .0, a .build-at2 .kept .1 .1 .0))
+  join-requires c κs = let b = c .before .before .before in let a = b .before .before .before .before .before in let k = a .before .before in room-of (laid k) _ (a .build-at2 .ensures .1) _ (b .build-at3 .ensures .1) _ (omega (arith, ready (laid-start k) .long, b .build-at3 .kept .1 .1 .0, a .build-at2 .kept .1 .1 .0))
+
+  pair-shape-requires : build-at-lts.Need-pair-shape-requires calls pre build-at.Post
+  pair-shape-requires c κs = let b = c .before .before .before .before .before .before in let a = b .before .before .before .before .before in let k = a .before .before in let z = weights (two-at (laid k) _ (a .build-at2 .ensures .1) _ (b .build-at3 .ensures .1)) in (z .0, z .1, omega (arith, z .2))
 
   returns-2 : build-at-lts.Need-returns-2 calls pre build-at.Post
-  returns-2 c = absurd (not-unknown _ _ (good (c .before .before .before .before .before .before)) (sym (c .before .before .kind-of .ensures) ∙ c .enum-told .given .1))
+  returns-2 c = absurd (not-unknown _ _ (good (c .before .before .before .before .before .before .before)) (sym (c .before .before .before .kind-of .ensures) ∙ c .before .enum-told .given .1))
 
   returns-3 : build-at-lts.Need-returns-3 calls pre build-at.Post
-  returns-3 c = absurd (not-formula _ _ (good (c .before .before .before .before .before .before)) _ (sym (c .before .before .kind-of .ensures) ∙ c .enum-told2 .given .1))
+  returns-3 c = absurd (not-formula _ _ (good (c .before .before .before .before .before .before .before)) _ (sym (c .before .before .before .kind-of .ensures) ∙ c .before .enum-told2 .given .1))
 
   same-length : build-at-lts.Need-same-length calls pre build-at.Post
   same-length c = c .before .before .put .kept .0
 
   returns-4 : build-at-lts.Need-returns-4 calls pre build-at.Post
-  returns-4 c =
-      let p = c .before .before in
-      let l = p .before .before in
-      let k = l .before in
-      letter-done _ _ _ (fits (letter-start k)) (letter-kind k) _ _ _ (ready (letter-start k)) (l .label-at .ensures) (p .put .ensures)
+  returns-4 c = let p = c .before .before in let l = p .before .before in let k = l .before in (letter-done _ _ _ (fits (letter-start k)) (letter-kind k) _ _ _ (ready (letter-start k)) (l .label-and-end .ensures) (p .put .ensures), shaped-letter _ _ (letter-kind k) _ (λ f e d. l .label-and-end .ensures f e d .1))
 
   returns-5 : build-at-lts.Need-returns-5 calls pre build-at.Post
-  returns-5 c =
-      let k = c .before .before in
-      empty-done _ _ _ (fits (rule-start k)) (of-rule k ∙ ap OfRule (c .enum-told4 .given .1)) _ (ready (rule-start k))
+  returns-5 c = let k = c .before .before .before in (empty-done _ _ _ (fits (rule-start k)) (of-rule k ∙ ap OfRule (c .before .enum-told4 .given .1)) _ (ready (rule-start k)), c .shape-at3 .ensures)
 
   same-length-2 : build-at-lts.Need-same-length-2 calls pre build-at.Post
-  same-length-2 c = omega (arith, c .before .before .again .kept .0, c .before .before .before .before .before .before .build-at .kept .1 .1 .0)
+  same-length-2 c = omega (arith, c .before .before .before .again .kept .0, c .before .before .before .before .before .before .before .build-at .kept .1 .1 .0)
 
   returns-6 : build-at-lts.Need-returns-6 calls pre build-at.Post
-  returns-6 c =
-      let a = c .before .before in
-      let b = a .before .before .before .before in
-      let k = b .before .before .before in
-      again-step _ _ _ (fits (again-start k)) _ (again-kind k) _ (b .before .before .shape-at .ensures) _ _ _ (b .build-at .ensures) (a .again .ensures)
+  returns-6 c = let a = c .before .before .before in let b = a .before .before .before .before in let k = b .before .before in (again-step _ _ _ (fits (again-start k)) _ (again-kind k) _ (b .build-at .ensures .1) _ _ _ (b .build-at .ensures .0) (a .again .ensures), shaped-again _ _ _ (again-kind k) _ _ (b .build-at .ensures .1) (c .again-shape .ensures))
 
   same-length-3 : build-at-lts.Need-same-length-3 calls pre build-at.Post
-  same-length-3 c = omega (arith, c .before .before .join .kept .0, c .before .before .before .before .before .before .build-at3 .kept .1 .1 .0, c .before .before .before .before .before .before .before .before .before .before .before .build-at2 .kept .1 .1 .0)
+  same-length-3 c = omega (arith, c .before .before .before .join .kept .0, c .before .before .before .before .before .before .before .build-at3 .kept .1 .1 .0, c .before .before .before .before .before .before .before .before .before .before .before .before .build-at2 .kept .1 .1 .0)
 
   returns-7 : build-at-lts.Need-returns-7 calls pre build-at.Post
-  returns-7 c =
-      let j = c .before .before in
-      let b = j .before .before .before .before in
-      let a = b .before .before .before .before .before in
-      let k = a .before .before in
-      two-step (laid k) _ _ _ _ (ready (laid-start k)) (a .build-at2 .ensures) (b .build-at3 .ensures) (j .join .ensures)
+  returns-7 c = let j = c .before .before .before in let b = j .before .before .before .before in let a = b .before .before .before .before .before in let k = a .before .before in (two-step (laid k) _ (a .build-at2 .ensures .1) _ (b .build-at3 .ensures .1) _ _ _ _ (ready (laid-start k)) (a .build-at2 .ensures .0) (b .build-at3 .ensures .0) (j .join .ensures), shaped-two _ _ _ (two-kind (operator k)) _ _ _ (a .build-at2 .ensures .1) (b .build-at3 .ensures .1) (c .pair-shape .ensures))
 
 pub +build-at-spec : {M : Type 1} → statement M
 +build-at-spec = close μ-build-at λ t. build-at-lts.spec (calls t)
@@ -269,31 +239,34 @@ pub +build-at-spec : {M : Type 1} → statement M
     (shared-slice-read-kind-of t)
     (kind-of-requires t)
     (enum-told t)
+    (shape-at-requires t)
     (enum-told-2 t)
+    (shape-at-requires-2 t)
     (enum-known-k t)
     (enum-told-3 t)
-    (add-label-at t)
-    (label-at-requires t)
+    (add-label-and-end t)
+    (label-and-end-requires t)
     (add-put t)
     (put-requires t)
     (enum-told-4 t)
-    (enum-told-5 t)
-    (add-first t)
-    (shape-at-requires t)
+    (shape-at-requires-3 t)
+    (enum-known-k-2 t)
+    (add-build-at t)
     (build-at-requires t)
     (again-requires t)
-    (enum-known-k-2 t)
-    (add-first-2 t)
-    (shape-at-requires-2 t)
-    (shape-at-requires-3 t)
-    (place-of-requires t)
+    (again-shape-requires t)
+    (enum-known-k-3 t)
+    (place-at-requires t)
     (enum-known-lo t)
-    (enum-told-6 t)
+    (enum-told-5 t)
+    (shape-at-requires-4 t)
     (returns t)
+    (add-build-at-2 t)
     (build-at-requires-2 t)
-    (add-build-at t)
+    (add-build-at-3 t)
     (build-at-requires-3 t)
     (join-requires t)
+    (pair-shape-requires t)
     (returns-2 t)
     (returns-3 t)
     (same-length t)
