@@ -1,0 +1,6 @@
+pub mod Wrotes
+pub mod ByteByByte
+pub mod Decimals
+pub mod Values
+pub mod Numbers
+pub mod Shortness
