@@ -1,3 +1,4 @@
+pub mod Parts
 pub mod Wrotes
 pub mod ByteByByte
 pub mod Decimals

@@ -2,7 +2,7 @@
 ghost use Prim.Native.Nat.{_+_, _≤_, _<_};
 ghost use mathlib.Core.Path.{_≡_};
 ghost use mathlib.Core.List.{[], _∷_};
-ghost use lib.ListN.{length, take};
+ghost use lib.ListN.{length, take, drop};
 ghost use Rattle.writing.specs.Decimal.{digit as digit-of, decimal, named};
 ghost use Rattle.writing.specs.Refused.{refusedText};
 ghost use Rattle.writing.specs.Wrote.{Wrote};
@@ -21,6 +21,14 @@ pub fn front(s: &[u8], n: usize) -> &[u8]
     ensures { λ r. ⌜ now r ≡ take n (now (s .entry)) ⌝ }
 {
     &s[..n]
+}
+
+// What follows the first n bytes.
+pub fn past(s: &[u8], n: usize) -> &[u8]
+    requires { ⌜ n ≤ length (now s) ⌝ }
+    ensures { λ r. ⌜ now r ≡ drop n (now (s .entry)) ⌝ }
+{
+    &s[n..]
 }
 
 pub fn put_byte(out: &mut [u8], at: usize, byte: u8) -> usize

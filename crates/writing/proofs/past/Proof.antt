@@ -1,8 +1,8 @@
 -- `past` gives all that follows. Assumes nothing.
 use borrow.Author.Needs.{needs}
-use Rattle.lines.proofs.Inputs.{all-past}
-use Rattle.lines.proofs.past.Statement.{statement}
-use Rattle.lines.proofs.past.Tie as tie
+use Rattle.writing.proofs.Parts.{all-past}
+use Rattle.writing.proofs.past.Statement.{statement}
+use Rattle.writing.proofs.past.Tie as tie
 
 sub-result : tie.Need-sub-result
 sub-result c = search needs
