@@ -20,6 +20,8 @@ use Rattle.texts.proofs.Sharing.{one-rule, one-place, text-injective}
 use Rattle.texts.proofs.BackAndForth as back-and-forth
 use Rattle.texts.proofs.Once as once
 use Rattle.texts.proofs.Held.{places-right}
+use Rattle.text_lines.proofs.Once as line-once
+use Rattle.text_lines.proofs.Beginning.{beginning}
 use Rattle.demands.specs.Terms.{Spells}
 use Rattle.demands.specs.Texts.{TextOf, Holds, ReadAs, AcceptedAreTexts, TextsAreAccepted, WrittenAs, WrittenAreTexts, RulesAreWritten, ReadsBack, WritesBack, FiveForAByte, ReadFault, WriteFault, ReadRefusedExactly, WriteRefusedExactly, RefusedReadKeeps, RefusedWriteKeeps, OneRead, OneWrite, Texts}
 use Rattle.demands.specs.Texts as faults
@@ -246,5 +248,7 @@ texts = record {
   refused-write-keeps = refused-write-keeps;
   one-read = one-read;
   one-write = one-write;
+  first-bytes-decide = beginning;
+  one-text-line = line-once.one-answer;
   places-held = places-right;
 }

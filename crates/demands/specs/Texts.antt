@@ -16,6 +16,7 @@ use Rattle.texts.specs.Text.{text}
 use Rattle.texts.specs.Sharing.{IsText, Shares}
 use Rattle.texts.specs.Answer.{Result, given, refused, told, ReadRight, WriteRight}
 use Rattle.texts.specs.Strings.{broken-texts, AllShared}
+use Rattle.text_lines.specs.Line.{LineOf, LineRight}
 use Rattle.demands.specs.Terms.{Spells}
 
 -- the string is the text of a rule within the limits
@@ -108,6 +109,12 @@ RefusedReadKeeps = (s before after : List ℕ) (n p : ℕ) → ReadRight s befor
 abbrev pub RefusedWriteKeeps : Type 0
 RefusedWriteKeeps = (s before after : List ℕ) (n p : ℕ) → WriteRight s before after (refused n p) → after ≡ before
 
+-- ---- ruletext
+
+-- the line of an input is that of its first 1,282 bytes
+abbrev pub FirstBytesDecide : Type 0
+FirstBytesDecide = (input line : List ℕ) → LineOf (take 1282 input) line → LineOf input line
+
 -- ---- one answer
 
 abbrev pub OneRead : Type 0
@@ -115,6 +122,9 @@ OneRead = (s before u v : List ℕ) (a b : TextAnswer) → ReadRight s before u 
 
 abbrev pub OneWrite : Type 0
 OneWrite = (s before u v : List ℕ) (a b : TextAnswer) → WriteRight s before u (told a) → WriteRight s before v (told b) → (a ≡ b) × (u ≡ v)
+
+abbrev pub OneTextLine : Type 0
+OneTextLine = (input before u v : List ℕ) (m n : ℕ) → LineRight input before u m → LineRight input before v n → (m ≡ n) × (u ≡ v)
 
 pub record Texts : Type 0 where
   pub accepted-are-texts : AcceptedAreTexts
@@ -131,5 +141,7 @@ pub record Texts : Type 0 where
   pub refused-write-keeps : RefusedWriteKeeps
   pub one-read : OneRead
   pub one-write : OneWrite
+  pub first-bytes-decide : FirstBytesDecide
+  pub one-text-line : OneTextLine
   -- ten strings that are no text, each with the length of the longest beginning that some rule text shares
   pub places-held : AllShared broken-texts

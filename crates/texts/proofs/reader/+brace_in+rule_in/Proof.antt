@@ -74,16 +74,31 @@ brace-in-enum-known-kind : (t : ℕ) → brace-in-lts.Need-enum-known-kind (brac
 brace-in-enum-known-kind t c = search needs
 
 brace-in-put-byte-requires : (t : ℕ) → brace-in-lts.Need-put-byte-requires (brace-in-calls t) (brace-in-at t) brace-in.Post
-brace-in-put-byte-requires t c κs = let p = c .before .before .before .before .before .before .before .before .before .before .before .before .before .before .pre .1 in omega arith
+brace-in-put-byte-requires t c κs =
+    let z = c .before .before .before .before .before .before .before .before .before .before .before .before .before .before in
+    let p = z .pre .1 in
+    omega arith
 
 brace-in-enum-known-kind-2 : (t : ℕ) → brace-in-lts.Need-enum-known-kind-2 (brace-in-calls t) (brace-in-at t) brace-in.Post
 brace-in-enum-known-kind-2 t c = search needs
 
 brace-in-put-byte-requires-2 : (t : ℕ) → brace-in-lts.Need-put-byte-requires-2 (brace-in-calls t) (brace-in-at t) brace-in.Post
-brace-in-put-byte-requires-2 t c κs = let p = c .before .before .before .before .before .before .before .before .before .before .before .before .before .before .pre .1 in omega arith
+brace-in-put-byte-requires-2 t c κs =
+    let z = c .before .before .before .before .before .before .before .before .before .before .before .before .before .before in
+    let p = z .pre .1 in
+    omega arith
 
 brace-in-rule-in-requires-2 : (t : ℕ) → brace-in-lts.Need-rule-in-requires-2 (brace-in-calls t) (brace-in-at t) brace-in.Post
-brace-in-rule-in-requires-2 t c κs = let x = as-upto (c .before .before .before .before .before .before .before .before .before .before .before .before .before .before .rule-in .ensures) _ _ (c .before .before .before .before .before .before .before .before .before .before .end .given .1) in let l = rule-bounds _ _ _ _ _ _ _ x in let g = subst (SignAt (c .before .before .before .before .before .before .before .before .before .before .before .before .before .before .before .before .before .before .args .text .now) (c .before .before .before .before .before .before .before .before .before .before .end .given .0 .0)) (c .before .before .before .before .before .before .kind2 .given .1) (c .before .before .before .before .before .before .before .before .sign-at .ensures) in let o = g .2 .part in let u = sign-length (g .0) in let w = c .before .before .before .put-byte2 .ensures in let p = c .before .before .before .before .before .before .before .before .before .before .before .before .before .before .before .before .before .before .pre .1 in (omega arith, omega arith)
+brace-in-rule-in-requires-2 t c κs =
+    let z = c .before .before .before .before .before .before .before .before .before .before .before .before .before .before .before .before .before .before in
+    let x = as-upto (c .before .before .before .before .before .before .before .before .before .before .before .before .before .before .rule-in .ensures) _ _ (c .before .before .before .before .before .before .before .before .before .before .end .given .1) in
+    let l = rule-bounds _ _ _ _ _ _ _ x in
+    let g = subst (SignAt (z .args .text .now) (c .before .before .before .before .before .before .before .before .before .before .end .given .0 .0)) (c .before .before .before .before .before .before .kind2 .given .1) (c .before .before .before .before .before .before .before .before .sign-at .ensures) in
+    let o = g .2 .part in
+    let u = sign-length (g .0) in
+    let w = c .before .before .before .put-byte2 .ensures in
+    let p = z .pre .1 in
+    (omega arith, omega arith)
 
 brace-in-closed-requires : (t : ℕ) → brace-in-lts.Need-closed-requires (brace-in-calls t) (brace-in-at t) brace-in.Post
 brace-in-closed-requires t c κs = search needs
@@ -92,25 +107,41 @@ brace-in-same-length : (t : ℕ) → brace-in-lts.Need-same-length (brace-in-cal
 brace-in-same-length t c = search needs
 
 brace-in-returns : (t : ℕ) → brace-in-lts.Need-returns (brace-in-calls t) (brace-in-at t) brace-in.Post
-brace-in-returns t c = let s = c .before .before .before .before .before .before .before .before .before .args in broke _ refl (brace-first (s .text .now) (s .at) _ (as-broken (c .before .before .before .before .before .rule-in .ensures) _ (c .before .p .given .1)))
+brace-in-returns t c =
+    let z = c .before .before .before .before .before .before .before .before .before in
+    let s = z .args in
+    broke _ refl (brace-first (s .text .now) (s .at) _ (as-broken (c .before .before .before .before .before .rule-in .ensures) _ (c .before .p .given .1)))
 
 brace-in-same-length-2 : (t : ℕ) → brace-in-lts.Need-same-length-2 (brace-in-calls t) (brace-in-at t) brace-in.Post
 brace-in-same-length-2 t c = search needs
 
 brace-in-returns-2 : (t : ℕ) → brace-in-lts.Need-returns-2 (brace-in-calls t) (brace-in-at t) brace-in.Post
-brace-in-returns-2 t c = let x = as-upto (c .before .before .before .before .before .before .before .before .before .rule-in .ensures) _ _ (c .before .before .before .before .before .end .given .1) in broke _ refl (brace-none _ _ _ _ _ _ _ x _ (subst (SignAt (c .before .before .before .before .before .before .before .before .before .before .before .before .before .args .text .now) (c .before .before .before .before .before .end .given .0 .0)) (c .before .p2 .given .1) (c .before .before .before .sign-at .ensures)))
+brace-in-returns-2 t c =
+    let z = c .before .before .before .before .before .before .before .before .before .before .before .before .before in
+    let x = as-upto (c .before .before .before .before .before .before .before .before .before .rule-in .ensures) _ _ (c .before .before .before .before .before .end .given .1) in
+    broke _ refl (brace-none _ _ _ _ _ _ _ x _ (subst (SignAt (z .args .text .now) (c .before .before .before .before .before .end .given .0 .0)) (c .before .p2 .given .1) (c .before .before .before .sign-at .ensures)))
 
 brace-in-same-length-3 : (t : ℕ) → brace-in-lts.Need-same-length-3 (brace-in-calls t) (brace-in-at t) brace-in.Post
 brace-in-same-length-3 t c = search needs
 
 brace-in-returns-3 : (t : ℕ) → brace-in-lts.Need-returns-3 (brace-in-calls t) (brace-in-at t) brace-in.Post
-brace-in-returns-3 t c = let x = as-upto (c .before .before .before .before .before .before .before .before .before .before .before .before .before .rule-in .ensures) _ _ (c .before .before .before .before .before .before .before .before .before .end .given .1) in let g = subst (SignAt (c .before .before .before .before .before .before .before .before .before .before .before .before .before .before .before .before .before .args .text .now) (c .before .before .before .before .before .before .before .before .before .end .given .0 .0)) (c .before .before .before .before .before .kind .given .1) (c .before .before .before .before .before .before .before .sign-at .ensures) in let p = c .before .before .before .before .before .before .before .before .before .before .before .before .before .before .before .before .before .pre .1 in took _ _ refl (brace-repeat _ _ _ _ _ _ _ x _ _ _ (c .before .before .put-byte .ensures) (omega arith) (g .0) (g .1) _ (g .2))
+brace-in-returns-3 t c =
+    let z = c .before .before .before .before .before .before .before .before .before .before .before .before .before .before .before .before .before in
+    let x = as-upto (c .before .before .before .before .before .before .before .before .before .before .before .before .before .rule-in .ensures) _ _ (c .before .before .before .before .before .before .before .before .before .end .given .1) in
+    let g = subst (SignAt (z .args .text .now) (c .before .before .before .before .before .before .before .before .before .end .given .0 .0)) (c .before .before .before .before .before .kind .given .1) (c .before .before .before .before .before .before .before .sign-at .ensures) in
+    let p = z .pre .1 in
+    took _ _ refl (brace-repeat _ _ _ _ _ _ _ x _ _ _ (c .before .before .put-byte .ensures) (omega arith) (g .0) (g .1) _ (g .2))
 
 brace-in-same-length-4 : (t : ℕ) → brace-in-lts.Need-same-length-4 (brace-in-calls t) (brace-in-at t) brace-in.Post
 brace-in-same-length-4 t c = search needs
 
 brace-in-returns-4 : (t : ℕ) → brace-in-lts.Need-returns-4 (brace-in-calls t) (brace-in-at t) brace-in.Post
-brace-in-returns-4 t c = let x = as-upto (c .before .before .before .before .before .before .before .before .before .before .before .before .before .before .before .before .before .before .rule-in .ensures) _ _ (c .before .before .before .before .before .before .before .before .before .before .before .before .before .before .end .given .1) in let g = subst (SignAt (c .before .before .before .before .before .before .before .before .before .before .before .before .before .before .before .before .before .before .before .before .before .before .args .text .now) (c .before .before .before .before .before .before .before .before .before .before .before .before .before .before .end .given .0 .0)) (c .before .before .before .before .before .before .before .before .before .before .kind2 .given .1) (c .before .before .before .before .before .before .before .before .before .before .before .before .sign-at .ensures) in let p = c .before .before .before .before .before .before .before .before .before .before .before .before .before .before .before .before .before .before .before .before .before .before .pre .1 in brace-pair _ _ _ _ _ _ _ x _ _ _ (c .before .before .before .before .before .before .before .put-byte2 .ensures) (omega arith) (g .0) (g .1) _ (g .2) _ _ (then-sign _ _ _ _ _ rule over-rule spell 125 _ _ (c .before .before .before .rule-in2 .ensures) (c .closed .ensures))
+brace-in-returns-4 t c =
+    let z = c .before .before .before .before .before .before .before .before .before .before .before .before .before .before .before .before .before .before .before .before .before .before in
+    let x = as-upto (c .before .before .before .before .before .before .before .before .before .before .before .before .before .before .before .before .before .before .rule-in .ensures) _ _ (c .before .before .before .before .before .before .before .before .before .before .before .before .before .before .end .given .1) in
+    let g = subst (SignAt (z .args .text .now) (c .before .before .before .before .before .before .before .before .before .before .before .before .before .before .end .given .0 .0)) (c .before .before .before .before .before .before .before .before .before .before .kind2 .given .1) (c .before .before .before .before .before .before .before .before .before .before .before .before .sign-at .ensures) in
+    let p = z .pre .1 in
+    brace-pair _ _ _ _ _ _ _ x _ _ _ (c .before .before .before .before .before .before .before .put-byte2 .ensures) (omega arith) (g .0) (g .1) _ (g .2) _ _ (then-sign _ _ _ _ _ rule over-rule spell 125 _ _ (c .before .before .before .rule-in2 .ensures) (c .closed .ensures))
 
 abbrev rule-in-calls : ℕ → rule-in-lts.Claims
 rule-in-calls t = (stands-reads.Asked, stands-reads.Learnt, kind-in-reads.Asked, kind-in-reads.Learnt, brace-in-below t, brace-in.Post, put-byte-reads.Asked, put-byte-reads.Learnt, formula-in-reads.Asked, formula-in-reads.Learnt)
@@ -128,13 +159,18 @@ rule-in-slice-aggregate-kind-in : (t : ℕ) → rule-in-lts.Need-slice-aggregate
 rule-in-slice-aggregate-kind-in t c = search needs
 
 rule-in-kind-in-requires : (t : ℕ) → rule-in-lts.Need-kind-in-requires (rule-in-calls t) (rule-in-at t) rule-in.Post
-rule-in-kind-in-requires t c κs = let h = (c .before .before .before .stands .ensures .yes-holds (c .before .before .if2 .taken)) in let p = c .before .before .before .before .before .before .before .pre .1 in omega arith
+rule-in-kind-in-requires t c κs =
+    let z = c .before .before .before .before .before .before .before in
+    let h = (c .before .before .before .stands .ensures .yes-holds (c .before .before .if2 .taken)) in
+    let p = z .pre .1 in
+    omega arith
 
 rule-in-same-length : (t : ℕ) → rule-in-lts.Need-same-length (rule-in-calls t) (rule-in-at t) rule-in.Post
 rule-in-same-length t c = search needs
 
 rule-in-returns-2 : (t : ℕ) → rule-in-lts.Need-returns-2 (rule-in-calls t) (rule-in-at t) rule-in.Post
-rule-in-returns-2 t c = arm-empty _ _ _ _ _ _ (c .before .before .before .before .before .before .stands .ensures .yes-holds (c .before .before .before .before .before .if2 .taken)) (c .before .before .kind-in .ensures)
+rule-in-returns-2 t c =
+    arm-empty _ _ _ _ _ _ (c .before .before .before .before .before .before .stands .ensures .yes-holds (c .before .before .before .before .before .if2 .taken)) (c .before .before .kind-in .ensures)
 
 rule-in-stands-requires-2 : (t : ℕ) → rule-in-lts.Need-stands-requires-2 (rule-in-calls t) (rule-in-at t) rule-in.Post
 rule-in-stands-requires-2 t c κs = search needs
@@ -143,25 +179,37 @@ rule-in-add-brace-in : (t : ℕ) → rule-in-lts.Need-add-brace-in (rule-in-call
 rule-in-add-brace-in t c = let h = (c .before .stands2 .ensures .yes-holds (c .if3 .taken)) in omega arith
 
 rule-in-brace-in-requires : (t : ℕ) → rule-in-lts.Need-brace-in-requires (rule-in-calls t) (rule-in-at t) rule-in.Post
-rule-in-brace-in-requires t c κs = let h = (c .before .before .stands2 .ensures .yes-holds (c .before .if3 .taken)) in let p = c .before .before .before .before .before .before .before .before .pre .1 in (omega arith, omega arith)
+rule-in-brace-in-requires t c κs =
+    let z = c .before .before .before .before .before .before .before .before in
+    let h = (c .before .before .stands2 .ensures .yes-holds (c .before .if3 .taken)) in
+    let p = z .pre .1 in
+    (omega arith, omega arith)
 
 rule-in-same-length-2 : (t : ℕ) → rule-in-lts.Need-same-length-2 (rule-in-calls t) (rule-in-at t) rule-in.Post
 rule-in-same-length-2 t c = search needs
 
 rule-in-returns-3 : (t : ℕ) → rule-in-lts.Need-returns-3 (rule-in-calls t) (rule-in-at t) rule-in.Post
-rule-in-returns-3 t c = arm-brace _ _ _ _ _ _ (c .before .before .before .before .before .stands2 .ensures .yes-holds (c .before .before .before .before .if3 .taken)) (c .before .before .brace-in .ensures)
+rule-in-returns-3 t c =
+    arm-brace _ _ _ _ _ _ (c .before .before .before .before .before .stands2 .ensures .yes-holds (c .before .before .before .before .if3 .taken)) (c .before .before .brace-in .ensures)
 
 rule-in-put-byte-requires : (t : ℕ) → rule-in-lts.Need-put-byte-requires (rule-in-calls t) (rule-in-at t) rule-in.Post
 rule-in-put-byte-requires t c κs = let p = c .before .before .before .before .before .before .before .before .pre .1 in omega arith
 
 rule-in-formula-in-requires : (t : ℕ) → rule-in-lts.Need-formula-in-requires (rule-in-calls t) (rule-in-at t) rule-in.Post
-rule-in-formula-in-requires t c κs = let p = c .before .before .before .before .before .before .before .before .before .before .before .before .pre .1 in let w = c .before .before .before .put-byte .ensures in omega arith
+rule-in-formula-in-requires t c κs =
+    let z = c .before .before .before .before .before .before .before .before .before .before .before .before in
+    let p = z .pre .1 in
+    let w = c .before .before .before .put-byte .ensures in
+    omega arith
 
 rule-in-same-length-3 : (t : ℕ) → rule-in-lts.Need-same-length-3 (rule-in-calls t) (rule-in-at t) rule-in.Post
 rule-in-same-length-3 t c = search needs
 
 rule-in-returns-4 : (t : ℕ) → rule-in-lts.Need-returns-4 (rule-in-calls t) (rule-in-at t) rule-in.Post
-rule-in-returns-4 t c = let p = c .before .before .before .before .before .before .before .before .before .before .before .before .before .before .before .pre .1 in arm-letter _ _ (omega arith) (c .before .before .before .before .before .before .before .before .before .before .before .stands .ensures .no-fails (c .before .before .before .before .before .before .before .before .before .before .if2 .left)) (c .before .before .before .before .before .before .before .before .before .stands2 .ensures .no-fails (c .before .before .before .before .before .before .before .before .if3 .left)) _ _ _ _ _ _ (omega arith) (c .before .before .before .before .before .before .put-byte .ensures) (c .before .before .formula-in .ensures)
+rule-in-returns-4 t c =
+    let z = c .before .before .before .before .before .before .before .before .before .before .before .before .before .before .before in
+    let p = z .pre .1 in
+    arm-letter _ _ (omega arith) (c .before .before .before .before .before .before .before .before .before .before .before .stands .ensures .no-fails (c .before .before .before .before .before .before .before .before .before .before .if2 .left)) (c .before .before .before .before .before .before .before .before .before .stands2 .ensures .no-fails (c .before .before .before .before .before .before .before .before .if3 .left)) _ _ _ _ _ _ (omega arith) (c .before .before .before .before .before .before .put-byte .ensures) (c .before .before .formula-in .ensures)
 
 pub +brace-in+rule-in-spec : {M : Type 1} → statement M
 +brace-in+rule-in-spec = close μ-brace-in μ-rule-in (λ t. brace-in-lts.spec (brace-in-calls t)

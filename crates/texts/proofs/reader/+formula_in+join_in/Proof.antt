@@ -66,7 +66,8 @@ formula-in-same-length : (t : ℕ) → formula-in-lts.Need-same-length (formula-
 formula-in-same-length t c = search needs
 
 formula-in-returns : (t : ℕ) → formula-in-lts.Need-returns (formula-in-calls t) (formula-in-at t) formula-in.Post
-formula-in-returns t c = arm-prop _ _ _ _ _ _ (c .before .before .before .before .before .stands .ensures .yes-holds (c .before .before .before .before .if1 .taken)) (c .before .before .digit-in .ensures)
+formula-in-returns t c =
+    arm-prop _ _ _ _ _ _ (c .before .before .before .before .before .stands .ensures .yes-holds (c .before .before .before .before .if1 .taken)) (c .before .before .digit-in .ensures)
 
 formula-in-stands-requires-2 : (t : ℕ) → formula-in-lts.Need-stands-requires-2 (formula-in-calls t) (formula-in-at t) formula-in.Post
 formula-in-stands-requires-2 t c κs = search needs
@@ -78,13 +79,18 @@ formula-in-slice-aggregate-kind-in : (t : ℕ) → formula-in-lts.Need-slice-agg
 formula-in-slice-aggregate-kind-in t c = search needs
 
 formula-in-kind-in-requires : (t : ℕ) → formula-in-lts.Need-kind-in-requires (formula-in-calls t) (formula-in-at t) formula-in.Post
-formula-in-kind-in-requires t c κs = let h = (c .before .before .before .stands2 .ensures .yes-holds (c .before .before .if2 .taken)) in let p = c .before .before .before .before .before .before .before .before .pre .1 in omega arith
+formula-in-kind-in-requires t c κs =
+    let z = c .before .before .before .before .before .before .before .before in
+    let h = (c .before .before .before .stands2 .ensures .yes-holds (c .before .before .if2 .taken)) in
+    let p = z .pre .1 in
+    omega arith
 
 formula-in-same-length-2 : (t : ℕ) → formula-in-lts.Need-same-length-2 (formula-in-calls t) (formula-in-at t) formula-in.Post
 formula-in-same-length-2 t c = search needs
 
 formula-in-returns-2 : (t : ℕ) → formula-in-lts.Need-returns-2 (formula-in-calls t) (formula-in-at t) formula-in.Post
-formula-in-returns-2 t c = arm-true _ _ _ _ _ _ (c .before .before .before .before .before .before .stands2 .ensures .yes-holds (c .before .before .before .before .before .if2 .taken)) (c .before .before .kind-in .ensures)
+formula-in-returns-2 t c =
+    arm-true _ _ _ _ _ _ (c .before .before .before .before .before .before .stands2 .ensures .yes-holds (c .before .before .before .before .before .if2 .taken)) (c .before .before .kind-in .ensures)
 
 formula-in-stands-requires-3 : (t : ℕ) → formula-in-lts.Need-stands-requires-3 (formula-in-calls t) (formula-in-at t) formula-in.Post
 formula-in-stands-requires-3 t c κs = search needs
@@ -96,31 +102,51 @@ formula-in-slice-aggregate-kind-in-2 : (t : ℕ) → formula-in-lts.Need-slice-a
 formula-in-slice-aggregate-kind-in-2 t c = search needs
 
 formula-in-kind-in-requires-2 : (t : ℕ) → formula-in-lts.Need-kind-in-requires-2 (formula-in-calls t) (formula-in-at t) formula-in.Post
-formula-in-kind-in-requires-2 t c κs = let h = (c .before .before .before .stands3 .ensures .yes-holds (c .before .before .if3 .taken)) in let p = c .before .before .before .before .before .before .before .before .before .before .pre .1 in omega arith
+formula-in-kind-in-requires-2 t c κs =
+    let z = c .before .before .before .before .before .before .before .before .before .before in
+    let h = (c .before .before .before .stands3 .ensures .yes-holds (c .before .before .if3 .taken)) in
+    let p = z .pre .1 in
+    omega arith
 
 formula-in-same-length-3 : (t : ℕ) → formula-in-lts.Need-same-length-3 (formula-in-calls t) (formula-in-at t) formula-in.Post
 formula-in-same-length-3 t c = search needs
 
 formula-in-returns-3 : (t : ℕ) → formula-in-lts.Need-returns-3 (formula-in-calls t) (formula-in-at t) formula-in.Post
-formula-in-returns-3 t c = arm-false _ _ _ _ _ _ (c .before .before .before .before .before .before .stands3 .ensures .yes-holds (c .before .before .before .before .before .if3 .taken)) (c .before .before .kind-in2 .ensures)
+formula-in-returns-3 t c =
+    arm-false _ _ _ _ _ _ (c .before .before .before .before .before .before .stands3 .ensures .yes-holds (c .before .before .before .before .before .if3 .taken)) (c .before .before .kind-in2 .ensures)
 
 formula-in-stands-requires-4 : (t : ℕ) → formula-in-lts.Need-stands-requires-4 (formula-in-calls t) (formula-in-at t) formula-in.Post
 formula-in-stands-requires-4 t c κs = search needs
 
 formula-in-put-byte-requires : (t : ℕ) → formula-in-lts.Need-put-byte-requires (formula-in-calls t) (formula-in-at t) formula-in.Post
-formula-in-put-byte-requires t c κs = let h = (c .before .before .stands4 .ensures .yes-holds (c .before .if4 .taken)) in let p = c .before .before .before .before .before .before .before .before .before .before .before .pre .1 in omega arith
+formula-in-put-byte-requires t c κs =
+    let z = c .before .before .before .before .before .before .before .before .before .before .before in
+    let h = (c .before .before .stands4 .ensures .yes-holds (c .before .if4 .taken)) in
+    let p = z .pre .1 in
+    omega arith
 
 formula-in-add-formula-in : (t : ℕ) → formula-in-lts.Need-add-formula-in (formula-in-calls t) (formula-in-at t) formula-in.Post
-formula-in-add-formula-in t c = let h = (c .before .before .before .before .before .stands4 .ensures .yes-holds (c .before .before .before .before .if4 .taken)) in omega arith
+formula-in-add-formula-in t c =
+    let h = (c .before .before .before .before .before .stands4 .ensures .yes-holds (c .before .before .before .before .if4 .taken)) in
+    omega arith
 
 formula-in-formula-in-requires : (t : ℕ) → formula-in-lts.Need-formula-in-requires (formula-in-calls t) (formula-in-at t) formula-in.Post
-formula-in-formula-in-requires t c κs = let h = (c .before .before .before .before .before .before .stands4 .ensures .yes-holds (c .before .before .before .before .before .if4 .taken)) in let p = c .before .before .before .before .before .before .before .before .before .before .before .before .before .before .before .pre .1 in let w = c .before .before .before .put-byte .ensures in (omega arith, omega arith)
+formula-in-formula-in-requires t c κs =
+    let z = c .before .before .before .before .before .before .before .before .before .before .before .before .before .before .before in
+    let h = (c .before .before .before .before .before .before .stands4 .ensures .yes-holds (c .before .before .before .before .before .if4 .taken)) in
+    let p = z .pre .1 in
+    let w = c .before .before .before .put-byte .ensures in
+    (omega arith, omega arith)
 
 formula-in-same-length-4 : (t : ℕ) → formula-in-lts.Need-same-length-4 (formula-in-calls t) (formula-in-at t) formula-in.Post
 formula-in-same-length-4 t c = search needs
 
 formula-in-returns-4 : (t : ℕ) → formula-in-lts.Need-returns-4 (formula-in-calls t) (formula-in-at t) formula-in.Post
-formula-in-returns-4 t c = let h = (c .before .before .before .before .before .before .before .before .before .stands4 .ensures .yes-holds (c .before .before .before .before .before .before .before .before .if4 .taken)) in let p = c .before .before .before .before .before .before .before .before .before .before .before .before .before .before .before .before .before .before .pre .1 in arm-not _ _ _ _ _ _ h _ _ (omega arith) (c .before .before .before .before .before .before .put-byte .ensures) (c .before .before .formula-in .ensures)
+formula-in-returns-4 t c =
+    let z = c .before .before .before .before .before .before .before .before .before .before .before .before .before .before .before .before .before .before in
+    let h = (c .before .before .before .before .before .before .before .before .before .stands4 .ensures .yes-holds (c .before .before .before .before .before .before .before .before .if4 .taken)) in
+    let p = z .pre .1 in
+    arm-not _ _ _ _ _ _ h _ _ (omega arith) (c .before .before .before .before .before .before .put-byte .ensures) (c .before .before .formula-in .ensures)
 
 formula-in-stands-requires-5 : (t : ℕ) → formula-in-lts.Need-stands-requires-5 (formula-in-calls t) (formula-in-at t) formula-in.Post
 formula-in-stands-requires-5 t c κs = search needs
@@ -129,16 +155,22 @@ formula-in-add-join-in : (t : ℕ) → formula-in-lts.Need-add-join-in (formula-
 formula-in-add-join-in t c = let h = (c .before .stands5 .ensures .yes-holds (c .if5 .taken)) in omega arith
 
 formula-in-join-in-requires : (t : ℕ) → formula-in-lts.Need-join-in-requires (formula-in-calls t) (formula-in-at t) formula-in.Post
-formula-in-join-in-requires t c κs = let h = (c .before .before .stands5 .ensures .yes-holds (c .before .if5 .taken)) in let p = c .before .before .before .before .before .before .before .before .before .before .before .before .before .pre .1 in (omega arith, omega arith)
+formula-in-join-in-requires t c κs =
+    let z = c .before .before .before .before .before .before .before .before .before .before .before .before .before in
+    let h = (c .before .before .stands5 .ensures .yes-holds (c .before .if5 .taken)) in
+    let p = z .pre .1 in
+    (omega arith, omega arith)
 
 formula-in-same-length-5 : (t : ℕ) → formula-in-lts.Need-same-length-5 (formula-in-calls t) (formula-in-at t) formula-in.Post
 formula-in-same-length-5 t c = search needs
 
 formula-in-returns-5 : (t : ℕ) → formula-in-lts.Need-returns-5 (formula-in-calls t) (formula-in-at t) formula-in.Post
-formula-in-returns-5 t c = arm-open _ _ _ _ _ _ (c .before .before .before .before .before .stands5 .ensures .yes-holds (c .before .before .before .before .if5 .taken)) (c .before .before .join-in .ensures)
+formula-in-returns-5 t c =
+    arm-open _ _ _ _ _ _ (c .before .before .before .before .before .stands5 .ensures .yes-holds (c .before .before .before .before .if5 .taken)) (c .before .before .join-in .ensures)
 
 formula-in-returns-6 : (t : ℕ) → formula-in-lts.Need-returns-6 (formula-in-calls t) (formula-in-at t) formula-in.Post
-formula-in-returns-6 t c = broke _ refl (no-formula _ _ (c .before .before .before .before .before .before .before .before .before .stands .ensures .no-fails (c .before .before .before .before .before .before .before .before .if1 .left)) (c .before .before .before .before .before .before .before .stands2 .ensures .no-fails (c .before .before .before .before .before .before .if2 .left)) (c .before .before .before .before .before .stands3 .ensures .no-fails (c .before .before .before .before .if3 .left)) (c .before .before .before .stands4 .ensures .no-fails (c .before .before .if4 .left)) (c .before .stands5 .ensures .no-fails (c .if5 .left)))
+formula-in-returns-6 t c =
+    broke _ refl (no-formula _ _ (c .before .before .before .before .before .before .before .before .before .stands .ensures .no-fails (c .before .before .before .before .before .before .before .before .if1 .left)) (c .before .before .before .before .before .before .before .stands2 .ensures .no-fails (c .before .before .before .before .before .before .if2 .left)) (c .before .before .before .before .before .stands3 .ensures .no-fails (c .before .before .before .before .if3 .left)) (c .before .before .before .stands4 .ensures .no-fails (c .before .before .if4 .left)) (c .before .stands5 .ensures .no-fails (c .if5 .left)))
 
 abbrev join-in-calls : ℕ → join-in-lts.Claims
 join-in-calls t = (formula-in-below t, formula-in.Post, junction-at-reads.Asked, junction-at-reads.Learnt, put-byte-reads.Asked, put-byte-reads.Learnt, closed-reads.Asked, closed-reads.Learnt)
@@ -162,16 +194,30 @@ join-in-same-length : (t : ℕ) → join-in-lts.Need-same-length (join-in-calls 
 join-in-same-length t c = search needs
 
 join-in-returns : (t : ℕ) → join-in-lts.Need-returns (join-in-calls t) (join-in-at t) join-in.Post
-join-in-returns t c = broke _ refl (join-none _ _ _ _ _ _ _ (as-upto (c .before .before .before .before .before .before .before .formula-in .ensures) _ _ (c .before .before .before .end .given .1)) _ (not-junction _ _ _ (c .before .junction-at .ensures) (c .if1 .taken)))
+join-in-returns t c =
+    broke _ refl (join-none _ _ _ _ _ _ _ (as-upto (c .before .before .before .before .before .before .before .formula-in .ensures) _ _ (c .before .before .before .end .given .1)) _ (not-junction _ _ _ (c .before .junction-at .ensures) (c .if1 .taken)))
 
 join-in-put-byte-requires : (t : ℕ) → join-in-lts.Need-put-byte-requires (join-in-calls t) (join-in-at t) join-in.Post
-join-in-put-byte-requires t c κs = let p = c .before .before .before .before .before .before .before .before .before .before .before .before .pre .1 in omega arith
+join-in-put-byte-requires t c κs =
+    let z = c .before .before .before .before .before .before .before .before .before .before .before .before in
+    let p = z .pre .1 in
+    omega arith
 
 join-in-add-formula-in-2 : (t : ℕ) → join-in-lts.Need-add-formula-in-2 (join-in-calls t) (join-in-at t) join-in.Post
-join-in-add-formula-in-2 t c = let i = is-junction _ _ _ (c .before .before .before .before .before .junction-at .ensures) (c .before .before .before .before .if1 .left) in let h = i .1 in omega arith
+join-in-add-formula-in-2 t c =
+    let i = is-junction _ _ _ (c .before .before .before .before .before .junction-at .ensures) (c .before .before .before .before .if1 .left) in
+    let h = i .1 in
+    omega arith
 
 join-in-formula-in-requires-2 : (t : ℕ) → join-in-lts.Need-formula-in-requires-2 (join-in-calls t) (join-in-at t) join-in.Post
-join-in-formula-in-requires-2 t c κs = let i = is-junction _ _ _ (c .before .before .before .before .before .before .junction-at .ensures) (c .before .before .before .before .before .if1 .left) in let h = i .1 in let l = formula-bounds _ _ _ _ _ _ _ (as-upto (c .before .before .before .before .before .before .before .before .before .before .before .before .formula-in .ensures) _ _ (c .before .before .before .before .before .before .before .before .end .given .1)) in let p = c .before .before .before .before .before .before .before .before .before .before .before .before .before .before .before .before .pre .1 in let w = c .before .before .before .put-byte .ensures in (omega arith, omega arith)
+join-in-formula-in-requires-2 t c κs =
+    let z = c .before .before .before .before .before .before .before .before .before .before .before .before .before .before .before .before in
+    let i = is-junction _ _ _ (c .before .before .before .before .before .before .junction-at .ensures) (c .before .before .before .before .before .if1 .left) in
+    let h = i .1 in
+    let l = formula-bounds _ _ _ _ _ _ _ (as-upto (c .before .before .before .before .before .before .before .before .before .before .before .before .formula-in .ensures) _ _ (c .before .before .before .before .before .before .before .before .end .given .1)) in
+    let p = z .pre .1 in
+    let w = c .before .before .before .put-byte .ensures in
+    (omega arith, omega arith)
 
 join-in-closed-requires : (t : ℕ) → join-in-lts.Need-closed-requires (join-in-calls t) (join-in-at t) join-in.Post
 join-in-closed-requires t c κs = search needs
@@ -180,13 +226,20 @@ join-in-same-length-2 : (t : ℕ) → join-in-lts.Need-same-length-2 (join-in-ca
 join-in-same-length-2 t c = search needs
 
 join-in-returns-2 : (t : ℕ) → join-in-lts.Need-returns-2 (join-in-calls t) (join-in-at t) join-in.Post
-join-in-returns-2 t c = let s = c .before .before .before .before .before .before .before .before .before .args in broke _ refl (join-first (s .text .now) (s .at) _ (as-broken (c .before .before .before .before .before .formula-in .ensures) _ (c .before .p .given .1)))
+join-in-returns-2 t c =
+    let z = c .before .before .before .before .before .before .before .before .before in
+    let s = z .args in
+    broke _ refl (join-first (s .text .now) (s .at) _ (as-broken (c .before .before .before .before .before .formula-in .ensures) _ (c .before .p .given .1)))
 
 join-in-same-length-3 : (t : ℕ) → join-in-lts.Need-same-length-3 (join-in-calls t) (join-in-at t) join-in.Post
 join-in-same-length-3 t c = search needs
 
 join-in-returns-3 : (t : ℕ) → join-in-lts.Need-returns-3 (join-in-calls t) (join-in-at t) join-in.Post
-join-in-returns-3 t c = let i = is-junction _ _ _ (c .before .before .before .before .before .before .before .before .before .before .junction-at .ensures) (c .before .before .before .before .before .before .before .before .before .if1 .left) in let p = c .before .before .before .before .before .before .before .before .before .before .before .before .before .before .before .before .before .before .before .before .pre .1 in join-on _ _ _ _ _ _ _ (as-upto (c .before .before .before .before .before .before .before .before .before .before .before .before .before .before .before .before .formula-in .ensures) _ _ (c .before .before .before .before .before .before .before .before .before .before .before .before .end .given .1)) (i .0) (i .1) _ (i .2) _ _ (c .before .before .before .before .before .before .before .put-byte .ensures) (omega arith) _ _ (then-sign _ _ _ _ _ formula over-formula spellF 41 _ _ (c .before .before .before .formula-in2 .ensures) (c .closed .ensures))
+join-in-returns-3 t c =
+    let z = c .before .before .before .before .before .before .before .before .before .before .before .before .before .before .before .before .before .before .before .before in
+    let i = is-junction _ _ _ (c .before .before .before .before .before .before .before .before .before .before .junction-at .ensures) (c .before .before .before .before .before .before .before .before .before .if1 .left) in
+    let p = z .pre .1 in
+    join-on _ _ _ _ _ _ _ (as-upto (c .before .before .before .before .before .before .before .before .before .before .before .before .before .before .before .before .formula-in .ensures) _ _ (c .before .before .before .before .before .before .before .before .before .before .before .before .end .given .1)) (i .0) (i .1) _ (i .2) _ _ (c .before .before .before .before .before .before .before .put-byte .ensures) (omega arith) _ _ (then-sign _ _ _ _ _ formula over-formula spellF 41 _ _ (c .before .before .before .formula-in2 .ensures) (c .closed .ensures))
 
 pub +formula-in+join-in-spec : {M : Type 1} → statement M
 +formula-in+join-in-spec = close μ-formula-in μ-join-in (λ t. formula-in-lts.spec (formula-in-calls t)
