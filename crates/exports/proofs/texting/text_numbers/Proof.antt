@@ -25,7 +25,7 @@ place-requires : tie.Need-place-requires
 place-requires c κs = search needs
 
 returns : tie.Need-returns
-returns c = cc
+returns c = by-case textsOf (c .before .answer .given .1) refl
 
 returns-2 : tie.Need-returns-2
 returns-2 c = by-case textsOf (c .before .before .before .answer2 .given .1) (by-numbers (λ (n p : ℕ). textNumbers (texts.refused n p)) refl (c .before .number .ensures) (c .place .ensures))
