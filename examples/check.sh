@@ -1,16 +1,18 @@
 #!/bin/sh
-# Checks a rule against a model, both written as a person would: bytes in hexadecimal. The rule and the model are those
-# below, or those of the two arguments:
+# Checks a rule against a model, both written as a person would: the rule as text, the model as bytes in hexadecimal.
+# They are those below, or those of the two arguments:
 #
 #     examples/check.sh ["RULE" ["MODEL"]]
 #
-# Needs rulecheck, which `rt check rulecheck` builds in the repository's root. RULECHECK names another one.
+# Needs rulecheck and ruletext, which `rt check rulecheck ruletext` builds in the repository's root. RULECHECK and
+# RULETEXT name others.
 set -euf
 root=$(CDPATH='' cd -- "$(dirname -- "$0")/.." && pwd)
 rulecheck=${RULECHECK:-$root/target/bin/rulecheck}
+ruletext=${RULETEXT:-$root/target/bin/ruletext}
 
 # p0, then any number of p1, then p2
-rule=${1-"12  10 01 00  12  17 10 01 01  10 01 02"}
+text=${1-"{p0;{{p1}[*];p2}}"}
 
 # each state: its kind, its letter, whether it is initial, and the set of its successors in 8 bytes, lowest first
 model=${2-"20 01 01  02 00 00 00 00 00 00 00
@@ -32,15 +34,22 @@ bytes() {
     done
 }
 
-# All is looked at before anything is checked: a verdict on a part of it would be one on another rule.
+for program in "$rulecheck" "$ruletext"; do
+    [ -x "$program" ] || stop "there is no program $program: run 'rt check rulecheck ruletext' in $root"
+done
+
+# The line without its newline. An answer that broke off has none, and is no answer.
+rule=$(printf %s "$text" | "$ruletext" | { IFS= read -r line && printf %s "$line"; }) || stop "ruletext gave no answer"
+case $rule in
+refused*) stop "no rule has the text $text: $rule" ;;
+esac
+
+# All is looked at before anything is checked: a verdict on a part of it would be one on another model.
 for byte in $rule $model; do
     case $byte in
     [0-9A-Fa-f][0-9A-Fa-f]) ;;
     *) stop "no byte of two hexadecimal digits: $byte" ;;
     esac
 done
-long=$(count $rule)
-[ "$long" -le 255 ] || stop "a rule has at most 255 bytes, and this one has $long"
-[ -x "$rulecheck" ] || stop "there is no rulecheck at $rulecheck: run 'rt check rulecheck' in $root"
 
-bytes "$(printf %02x "$long")" $rule $model | "$rulecheck"
+bytes "$(printf %02x "$(count $rule)")" $rule $model | "$rulecheck"

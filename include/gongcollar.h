@@ -6,7 +6,8 @@
  * refusal leaves every lent slice as it was.
  *
  * Refusals: 1 to 7 a rule's, 11 to 16 a model's, 21 a lent slice has fewer than 4,096 entries, 22 a byte that is
- * no letter, 23 more than 16 letters for gc_judge. A table's label from p to q stands at 64p+q; a set has bit q
+ * no letter, 23 more than 16 letters for gc_judge, 30 a text has more than 1,280 characters, 31 no rule has the text,
+ * 32 the output is too short for what would be written. A table's label from p to q stands at 64p+q; a set has bit q
  * for state q.
  *
  * No call keeps anything between calls, takes memory or asks anything of the system. So calls may run in several
@@ -20,7 +21,7 @@
 /* The number of this page. It goes up by one whenever a call or a field is added or changed, so that a host can ask
  * at compile time for the page it was written against, as by `#if GONGCOLLAR_VERSION < 2`. (The page before the first
  * number had no gc_follow.) The archive has no number of its own: take both from one commit. */
-#define GONGCOLLAR_VERSION 2
+#define GONGCOLLAR_VERSION 3
 
 #ifdef __cplusplus
 extern "C" {
@@ -33,6 +34,7 @@ typedef struct { uint64_t refused, place, set, matched; } gc_stepped;
 typedef struct { uint64_t refused, place, matches; } gc_moved;
 typedef struct { uint64_t refused, place, states; } gc_model;
 typedef struct { uint64_t refused, place, found, length, pairs; } gc_searched;
+typedef struct { uint64_t refused, place, length, weight; } gc_text;
 
 gc_rule gc_read_rule(const uint8_t *rule, size_t rule_len);
 gc_built gc_build(const uint8_t *rule, size_t rule_len, uint64_t *table, size_t table_len);
@@ -50,6 +52,11 @@ gc_searched gc_search(const uint8_t *rule, size_t rule_len, const uint8_t *model
 /* rulecheck's line for one input (without the closing newline) into out, which holds 16,384 bytes or more;
  * the answer is the line's length, 0 where out is shorter than that, and out is then untouched */
 uint64_t gc_rulecheck(const uint8_t *input, size_t input_len, uint8_t *out, size_t out_len);
+/* A rule as text: `length` is the number of bytes of the rule, or of characters of the text, written to the beginning of
+ * out; 255 bytes, or 1,280 characters, are always enough. 31 is at the first character that no rule text has there, so
+ * that the characters before it begin one; reading tests 30, 31, 1, 7 and then 32, writing the rule's own and then 32. */
+gc_text gc_read_text(const uint8_t *text, size_t text_len, uint8_t *out, size_t out_len);
+gc_text gc_write_text(const uint8_t *rule, size_t rule_len, uint8_t *out, size_t out_len);
 
 #ifdef __cplusplus
 }

@@ -19,6 +19,8 @@ use Rattle.search.specs.declared.SearchAnswer.{SearchAnswer}
 use Rattle.search.specs.declared.SearchAnswer.the-variants.{Answered}
 use Rattle.search.specs.declared.inner.Searched.{Searched}
 use Rattle.search.specs.Answer as search
+use Rattle.texts.specs.declared.TextAnswer.{TextAnswer}
+use Rattle.texts.specs.Answer as texts
 use Rattle.exports.specs.declared.reading.GcRule.{GcRule}
 use Rattle.exports.specs.declared.reading.GcModel.{GcModel}
 use Rattle.exports.specs.declared.building.GcBuilt.{GcBuilt}
@@ -26,7 +28,8 @@ use Rattle.exports.specs.declared.judging.GcJudged.{GcJudged}
 use Rattle.exports.specs.declared.stepping.GcStepped.{GcStepped}
 use Rattle.exports.specs.declared.following.GcMoved.{GcMoved}
 use Rattle.exports.specs.declared.searching.GcSearched.{GcSearched}
-use Rattle.exports.specs.Numbers.{ruleNumbers, stateNumbers, builtNumbers, judgedNumbers, stepNumbers, movedNumbers, searchedNumbers}
+use Rattle.exports.specs.Numbers.{ruleNumbers, stateNumbers, builtNumbers, judgedNumbers, stepNumbers, movedNumbers, searchedNumbers, textNumbers}
+use Rattle.exports.specs.declared.texting.GcText.{GcText}
 use Rattle.exports.specs.Promise.{Searches}
 
 -- what is right of the case is right of the answer
@@ -57,6 +60,9 @@ followOf a = movedNumbers (ending a)
 
 abbrev pub searchedOf : List ℕ → SearchAnswer → GcSearched
 searchedOf run a = searchedNumbers (search.told a run)
+
+abbrev pub textsOf : TextAnswer → GcText
+textsOf a = textNumbers (texts.told a)
 
 -- the case of a search that was answered
 pub answered-as : {a : SearchAnswer} {x y : Searched} {k : Known} → a ≡ Answered x k → x ≡ y → a ≡ Answered y k

@@ -24,8 +24,11 @@ use Rattle.exports.specs.declared.judging.GcJudged.{GcJudged}
 use Rattle.exports.specs.declared.stepping.GcStepped.{GcStepped}
 use Rattle.exports.specs.declared.following.GcMoved.{GcMoved}
 use Rattle.exports.specs.declared.searching.GcSearched.{GcSearched}
-use Rattle.exports.specs.Numbers.{ruleNumbers, modelNumbers, builtNumbers, judgedNumbers, walker, steppedNumbers, movedNumbers, searchedNumbers}
-use Rattle.exports.specs.Promise.{Built, Judges, Searches}
+use Rattle.exports.specs.Numbers.{ruleNumbers, modelNumbers, builtNumbers, judgedNumbers, walker, steppedNumbers, movedNumbers, searchedNumbers, textNumbers}
+use Rattle.exports.specs.Promise.{Built, Judges, Searches, ReadsText, WritesText}
+use Rattle.texts.specs.Answer as texts
+use Rattle.texts.proofs.Once as texts-once
+use Rattle.exports.specs.declared.texting.GcText.{GcText}
 
 pub one-rule : (s : List ℕ) (r r′ : GcRule) → r ≡ ruleNumbers (rules.answer s) → r′ ≡ ruleNumbers (rules.answer s) → r ≡ r′
 one-rule s r r′ e e′ = e ∙ sym e′
@@ -54,3 +57,13 @@ pub one-search : (s g : List ℕ) (b a d : search.Slices) (r r′ : GcSearched) 
 one-search s g b a d r r′ ha hd x x′ =
     let o = search-once.one-search-answer s g b a d (x .answer) (x′ .answer) ha hd (x .right) (x′ .right) in
     (x .given ∙ ap₂ (λ (y : SearchAnswer) (l : search.Slices). searchedNumbers (search.told y (l .run))) (o .0) (o .1) ∙ sym (x′ .given), o .1)
+
+pub one-read-text : (s before u v : List ℕ) (r r′ : GcText) → ReadsText s before u r → ReadsText s before v r′ → (r ≡ r′) × (u ≡ v)
+one-read-text s before u v r r′ x x′ =
+    let o = texts-once.one-read s before u v (texts.told (x .answer)) (texts.told (x′ .answer)) (x .right) (x′ .right) in
+    (x .given ∙ ap textNumbers (o .0) ∙ sym (x′ .given), o .1)
+
+pub one-write-text : (s before u v : List ℕ) (r r′ : GcText) → WritesText s before u r → WritesText s before v r′ → (r ≡ r′) × (u ≡ v)
+one-write-text s before u v r r′ x x′ =
+    let o = texts-once.one-write s before u v (texts.told (x .answer)) (texts.told (x′ .answer)) (x .right) (x′ .right) in
+    (x .given ∙ ap textNumbers (o .0) ∙ sym (x′ .given), o .1)

@@ -9,10 +9,13 @@ use Rattle.judge.specs.declared.JudgeAnswer.{JudgeAnswer}
 use Rattle.judge.specs.Verdict as judge
 use Rattle.search.specs.declared.SearchAnswer.{SearchAnswer}
 use Rattle.search.specs.Answer as search
+use Rattle.texts.specs.declared.TextAnswer.{TextAnswer}
+use Rattle.texts.specs.Answer as texts
 use Rattle.exports.specs.declared.building.GcBuilt.{GcBuilt}
 use Rattle.exports.specs.declared.judging.GcJudged.{GcJudged}
 use Rattle.exports.specs.declared.searching.GcSearched.{GcSearched}
-use Rattle.exports.specs.Numbers.{builtNumbers, judgedNumbers, searchedNumbers}
+use Rattle.exports.specs.declared.texting.GcText.{GcText}
+use Rattle.exports.specs.Numbers.{builtNumbers, judgedNumbers, searchedNumbers, textNumbers}
 
 -- gc_build: the rule's bytes s, and the table slice before and after
 pub record Built (s t t′ : List ℕ) (r : GcBuilt) : Type 0 where
@@ -31,3 +34,15 @@ pub record Searches (rule model : List ℕ) (before after : search.Slices) (r : 
   pub answer : SearchAnswer
   pub right : search.SearchRight rule model before after (search.told answer (after .run))
   pub given : r ≡ searchedNumbers (search.told answer (after .run))
+
+-- gc_read_text: the text s, and the output before and after
+pub record ReadsText (s before after : List ℕ) (r : GcText) : Type 0 where
+  pub answer : TextAnswer
+  pub right : texts.ReadRight s before after (texts.told answer)
+  pub given : r ≡ textNumbers (texts.told answer)
+
+-- gc_write_text: the rule's bytes s, and the output before and after
+pub record WritesText (s before after : List ℕ) (r : GcText) : Type 0 where
+  pub answer : TextAnswer
+  pub right : texts.WriteRight s before after (texts.told answer)
+  pub given : r ≡ textNumbers (texts.told answer)

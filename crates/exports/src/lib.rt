@@ -9,3 +9,4 @@ mod stepping; // a walker
 mod following; // a whole sequence
 mod searching; // a model, for a rule
 mod checking; // one input, as a line
+mod texting; // a rule as text

@@ -14,8 +14,9 @@ use Rattle.search.specs.declared.inner.Searched.the-variants.{Found, Nothing}
 use Rattle.search.specs.declared.SearchAnswer.{SearchAnswer}
 use Rattle.search.specs.declared.SearchAnswer.the-variants.{Answered, RuleRefused, ModelRefused, ShortSlice}
 use Rattle.search.specs.Answer.{told}
-use Rattle.lines.specs.Text.{foundText, noneText, refusedText, textOf}
-use Rattle.lines.specs.Writing.{Wrote}
+use Rattle.lines.specs.Text.{foundText, noneText, textOf}
+use Rattle.writing.specs.Refused.{refusedText}
+use Rattle.writing.specs.Wrote.{Wrote}
 use Rattle.lines.specs.Room.{Fits}
 use Rattle.lines.proofs.Fitting.{found-room, none-room, refused-room}
 

@@ -16,15 +16,12 @@ use Rattle.search.specs.declared.SearchAnswer.{SearchAnswer}
 use Rattle.search.specs.declared.SearchAnswer.the-variants.{Answered, RuleRefused, ModelRefused, ShortSlice}
 use Rattle.search.specs.Right.{Answer, found, Right}
 use Rattle.search.specs.Answer.{Slices, Result, answered, SearchRight, rule-refused, model-refused, short-slice, searched, told}
-use Rattle.lines.specs.Decimal.{decimal}
-use Rattle.lines.specs.Text.{foundWord, pairsWord, colon, noneWord, refusedWord, atWord, named, statesText, foundText, noneText, refusedText}
+use Rattle.writing.specs.Decimal.{named}
+use Rattle.writing.specs.Refused.{refusedText}
+use Rattle.lines.specs.Text.{foundWord, pairsWord, colon, noneWord, statesText, foundText, noneText}
 use Rattle.lines.specs.Room.{lineRoom, Fits}
-use Rattle.lines.proofs.Decimals.{decimal-short}
+use Rattle.writing.proofs.Shortness.{named-short, refused-short}
 use Rattle.lines.proofs.States.{states-short}
-
--- a 64-bit number has at most 20 digits
-named-short : (word : List ℕ) (n : ℕ) → n < 2 ^ 64 → length (named word n) ≤ length word + 20
-named-short word n h = let d = decimal-short 19 n (omega arith) in let l = length-append word (decimal n) in omega arith
 
 pub found-room : (long pairs : ℕ) (run : List ℕ) → long < 2 ^ 64 → pairs < 2 ^ 64 → length (statesText run) ≤ 3 * 4096 → length (foundText long run pairs) ≤ lineRoom
 unfolding foundText
@@ -41,12 +38,7 @@ unfolding noneText
 none-room pairs h = let a = named-short noneWord pairs h in omega arith
 
 pub refused-room : (number place : ℕ) → number < 2 ^ 64 → place < 2 ^ 64 → length (refusedText number place) ≤ lineRoom
-unfolding refusedText
-refused-room number place h k =
-    let a = named-short refusedWord number h in
-    let b = named-short atWord place k in
-    let c = length-append (named refusedWord number) (named atWord place) in
-    omega arith
+refused-room number place h k = let a = refused-short number place h k in omega arith
 
 -- a find's length is the run's, and none of the run's states is above 63
 module _ (rule model : List ℕ) (before after : Slices) (bytes : (i : ℕ) → getD model i 0 < 256) (k : Known) (long c : ℕ) (run : List ℕ) where

@@ -7,10 +7,6 @@ use lib.ListN.{length, getD, take, drop, length-drop, drop-of-length-le}
 use lib.Seq.{take-all, drop-length, getD-drop}
 use Rattle.lines.specs.Input.{ruleIn, modelIn}
 
--- all that follows the first n
-pub all-past : (s : List ℕ) (n : ℕ) → take (length s - n) (drop n s) ≡ drop n s
-all-past s n = let l = length-drop n s in take-all (length s - n) (drop n s) (omega arith)
-
 -- no input
 pub rule-none : (s : List ℕ) → length s ≡ 0 → s ≡ ruleIn s
 unfolding ruleIn

@@ -1,8 +1,3 @@
-pub mod Decimals
-pub mod Values
-pub mod Wrotes
-pub mod Words
-pub mod Numbers
 pub mod States
 pub mod Inputs
 pub mod Fitting

@@ -9,9 +9,9 @@ use lib.ListN.{length, getD, take, drop, length-append}
 use lib.Seq.{take-suc, take-add}
 use Rattle.models.specs.Model.{Model, Walk}
 use Rattle.lines.specs.Text.{stateText, statesText}
-use Rattle.lines.specs.Writing.{Wrote}
-use Rattle.lines.proofs.Wrotes.{wrote-none, wrote-more}
-use Rattle.lines.proofs.Decimals.{decimal-short}
+use Rattle.writing.specs.Wrote.{Wrote}
+use Rattle.writing.proofs.Wrotes.{wrote-none, wrote-more}
+use Rattle.writing.proofs.Decimals.{decimal-short}
 
 states-append : (r q : List ℕ) → statesText (r ++ q) ≡ statesText r ++ statesText q
 unfolding statesText

@@ -8,7 +8,7 @@ use Rattle.search.specs.declared.SearchAnswer.{SearchAnswer}
 use Rattle.search.specs.Answer.{Slices, told, SearchRight}
 use Rattle.lines.specs.Text.{textOf}
 use Rattle.lines.specs.Input.{ruleIn, modelIn}
-use Rattle.lines.specs.Writing.{Wrote}
+use Rattle.writing.specs.Wrote.{Wrote}
 use Rattle.lines.specs.Room.{lineRoom, Fits}
 use Rattle.lines.specs.Line.{fresh, LineRight, written}
 use Rattle.lines.proofs.Inputs.{model-bytes}

@@ -3,7 +3,8 @@ use Prim.Native.Nat.{ℕ}
 use mathlib.Core.List.{List, [], _∷_, _++_}
 use Rattle.search.specs.Right.{found, nothing}
 use Rattle.search.specs.Answer.{Result, answered, refused}
-use Rattle.lines.specs.Decimal.{decimal}
+use Rattle.writing.specs.Decimal.{decimal, named}
+use Rattle.writing.specs.Refused.{refusedText}
 
 -- "found "
 abbrev pub foundWord : List ℕ
@@ -21,18 +22,6 @@ colon = 58 ∷ []
 abbrev pub noneWord : List ℕ
 noneWord = 110 ∷ 111 ∷ 110 ∷ 101 ∷ 32 ∷ 112 ∷ 97 ∷ 105 ∷ 114 ∷ 115 ∷ 32 ∷ []
 
--- "refused "
-abbrev pub refusedWord : List ℕ
-refusedWord = 114 ∷ 101 ∷ 102 ∷ 117 ∷ 115 ∷ 101 ∷ 100 ∷ 32 ∷ []
-
--- " at "
-abbrev pub atWord : List ℕ
-atWord = 32 ∷ 97 ∷ 116 ∷ 32 ∷ []
-
--- a word and then a number
-abbrev pub named : List ℕ → ℕ → List ℕ
-named word n = word ++ decimal n
-
 -- the states of a run, a blank before each
 abbrev pub stateText : ℕ → List ℕ
 stateText s = 32 ∷ decimal s
@@ -48,10 +37,6 @@ foundText length run pairs = named foundWord length ++ named pairsWord pairs ++ 
 -- none: the pair count
 unfoldable pub noneText : ℕ → List ℕ
 noneText pairs = named noneWord pairs
-
--- refused: the number and the place
-unfoldable pub refusedText : ℕ → ℕ → List ℕ
-refusedText number place = named refusedWord number ++ named atWord place
 
 abbrev pub textOf : Result → List ℕ
 textOf (answered known length (found run pairs)) = foundText length run pairs

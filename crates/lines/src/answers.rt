@@ -3,14 +3,15 @@ ghost use Prim.Native.Nat.{_+_, _≤_};
 ghost use mathlib.Core.List.{_++_};
 ghost use lib.ListN.{length, take};
 ghost use Rattle.search.specs.Answer.{told};
-ghost use Rattle.lines.specs.Text.{colon, stateText, statesText, foundText, noneText, refusedText, textOf};
-ghost use Rattle.lines.specs.Writing.{Wrote};
+ghost use Rattle.lines.specs.Text.{colon, stateText, statesText, foundText, noneText, textOf};
+ghost use Rattle.writing.specs.Wrote.{Wrote};
 ghost use Rattle.lines.specs.Room.{Fits};
-use crate::text::put_byte;
-use crate::text::put_named;
-use crate::text::put_number;
 use search::SearchAnswer;
 use search::inner::Searched;
+use writing::put_byte;
+use writing::put_named;
+use writing::put_number;
+use writing::put_refused;
 
 const BLANK: u8 = 32;
 
@@ -21,10 +22,6 @@ const PAIRS: [u8; 7] = *b" pairs ";
 const COLON: u8 = 58;
 
 const NONE_PAIRS: [u8; 11] = *b"none pairs ";
-
-const REFUSED: [u8; 8] = *b"refused ";
-
-const AT: [u8; 4] = *b" at ";
 
 // The number and the place of the refusal for a slice that is too short.
 const SHORT_SLICE: u64 = 21;
@@ -75,14 +72,6 @@ fn put_none(out: &mut [u8], pairs: usize) -> usize
     ensures { λ r. ⌜ Wrote (noneText pairs) (now (out .entry)) 0 (now (out .exit)) r ⌝ }
 {
     put_named(out, 0, &NONE_PAIRS, pairs as u64)
-}
-
-fn put_refused(out: &mut [u8], number: u64, place: usize) -> usize
-    requires { ⌜ length (refusedText number place) ≤ length (now out) ⌝ }
-    ensures { λ r. ⌜ Wrote (refusedText number place) (now (out .entry)) 0 (now (out .exit)) r ⌝ }
-{
-    let past = put_named(out, 0, &REFUSED, number);
-    put_named(out, past, &AT, place as u64)
 }
 
 pub fn put_answer(out: &mut [u8], answer: SearchAnswer, run: &[u8]) -> usize

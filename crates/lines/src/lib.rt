@@ -1,15 +1,16 @@
 // The line that says what the search for one input comes to: `found L pairs C: s0 s1 ..`, `none pairs C` or `refused N at P`.
 ghost use mathlib.Core.Path.{_≡_};
 ghost use Prim.Native.Nat.{_≤_};
-ghost use lib.ListN.{length, take, drop};
+ghost use lib.ListN.{length};
 ghost use Rattle.search.specs.Answer.{slices};
 ghost use Rattle.lines.specs.Input.{ruleIn, modelIn};
 ghost use Rattle.lines.specs.Room.{lineRoom};
 ghost use Rattle.lines.specs.Line.{fresh, LineRight};
 use crate::answers::put_answer;
 use tables::TABLE_ENTRIES;
+use writing::front;
+use writing::past;
 
-mod text; // words and numbers into a lent slice
 mod answers; // what a search comes to, as text
 
 // The longest run has 4,032 states, so that no line is longer.
@@ -23,22 +24,6 @@ fn long_of(byte: u8) -> usize
     ensures { λ r. ⌜ r ≡ byte ⌝ }
 {
     byte as usize
-}
-
-// What follows the first n bytes.
-fn past(s: &[u8], n: usize) -> &[u8]
-    requires { ⌜ n ≤ length (now s) ⌝ }
-    ensures { λ r. ⌜ now r ≡ drop n (now (s .entry)) ⌝ }
-{
-    &s[n..]
-}
-
-// The first n bytes.
-fn front(s: &[u8], n: usize) -> &[u8]
-    requires { ⌜ n ≤ length (now s) ⌝ }
-    ensures { λ r. ⌜ now r ≡ take n (now (s .entry)) ⌝ }
-{
-    &s[..n]
 }
 
 // The rule of an input: as many bytes as the first byte says, or what there is of them.

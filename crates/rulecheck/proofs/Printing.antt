@@ -6,9 +6,9 @@ use mathlib.Core.List.{List, [], _∷_, _++_, append-assoc}
 use lib.ListN.{length, getD, take, drop, set, length-append, length-take, length-drop, length-set}
 use lib.Seq.{take-at, drop-append-le, getD-take}
 use Rattle.lines.specs.Room.{lineRoom}
-use Rattle.lines.specs.Writing.{Wrote}
+use Rattle.writing.specs.Wrote.{Wrote}
 use Rattle.lines.specs.Line.{LineOf, LineRight, short-output, written}
-use Rattle.lines.proofs.Wrotes.{wrote-byte, wrote-more}
+use Rattle.writing.proofs.Wrotes.{wrote-byte, wrote-more}
 use Rattle.lines.proofs.Beginning.{beginning}
 use Rattle.rulecheck.specs.Printed.{inputRoom, newline, Printed, PrintedFor}
 

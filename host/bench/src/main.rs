@@ -5,6 +5,7 @@ mod generated;
 mod hard;
 mod labels;
 mod stack;
+mod texts;
 mod timing;
 
 use cases::draws::seed_given;
@@ -26,8 +27,9 @@ fn main() -> ExitCode {
     generated::run(seed);
     labels::run();
     let same = hard::run();
+    let back = texts::run();
     let shallow = stack::run();
-    ExitCode::from(u8::from(!(same && shallow)))
+    ExitCode::from(u8::from(!(same && back && shallow)))
 }
 
 /// The name of the processor, where the system tells it.

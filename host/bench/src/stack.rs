@@ -3,7 +3,7 @@
 //! The stack below the caller is painted, the call is made, and the lowest byte that has lost its paint tells how deep
 //! the call went. A thread's own memory is written and read through /proc/self/mem, so this is for Linux.
 
-use cases::{heavy, hostile, line_input, models};
+use cases::{heavy, hostile, line_input, models, texts};
 use gongcollar::{raw, Lent, ENTRIES, LINE_BYTES};
 use std::fs::{File, OpenOptions};
 use std::io;
@@ -123,6 +123,17 @@ fn measure(rules: &[Vec<u8>]) -> io::Result<Vec<Deepest>> {
     each("rulecheck", &mut |rule| {
         raw::rulecheck(&line_input(rule, &model), &mut out);
     })?;
+    each("write_text", &mut |rule| {
+        raw::write_text(rule, &mut out);
+    })?;
+    calls.push(deepest(
+        &memory,
+        "read_text",
+        &texts::hostile(),
+        &mut |text| {
+            raw::read_text(text, &mut out);
+        },
+    )?);
     Ok(calls)
 }
 

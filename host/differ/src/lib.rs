@@ -5,4 +5,5 @@
 pub mod expected;
 pub mod lent;
 pub mod report;
+pub mod texts;
 pub mod trials;

@@ -12,7 +12,9 @@ use std::process::ExitCode;
 
 const SEED: u64 = 20_260_101;
 /// Every refusal of the interface; each must come up.
-const REFUSALS: [u64; 16] = [1, 2, 3, 4, 5, 6, 7, 11, 12, 13, 14, 15, 16, 21, 22, 23];
+const REFUSALS: [u64; 19] = [
+    1, 2, 3, 4, 5, 6, 7, 11, 12, 13, 14, 15, 16, 21, 22, 23, 30, 31, 32,
+];
 const FEWEST_CASES: usize = 20_000;
 
 const VALID: usize = 3000;
@@ -44,6 +46,7 @@ fn main() -> ExitCode {
     good_and_bad_models(&mut trials);
     steps(&mut trials);
     walks(&mut trials);
+    differ::texts::run(&mut trials);
     verdict(seed, &trials)
 }
 

@@ -6,6 +6,8 @@
 //! [`Table::follow`] decides a whole sequence, and [`judge`] a short one with no table. Bad input is a [`Refusal`] with
 //! its number and its place.
 //!
+//! A [`Rule`] is read from text, as `{p0;{{p1}[*];p2}}`, and written as it.
+//!
 //! This crate is a thin layer over the proved static library. What it adds is Rust's types: nothing is decided here.
 //!
 //! No call panics, whatever it is given. A call that refuses leaves all that was lent to it as it was.
@@ -20,12 +22,14 @@ pub mod raw;
 mod refusal;
 mod rules;
 mod tables;
+mod texts;
 
 pub use lines::{rulecheck, rulecheck_into};
 pub use models::{read_model, search_into, Lent, ModelInfo, Searched, Workspace};
 pub use refusal::Refusal;
 pub use rules::{judge, read_rule, RuleInfo};
 pub use tables::{build_into, follow, Built, Stepped, Table, Walker};
+pub use texts::{read_text_into, write_text_into, Rule};
 
 /// The most states that a table or a model has.
 pub const STATES: usize = 64;
@@ -35,3 +39,9 @@ pub const ENTRIES: usize = STATES * STATES;
 
 /// The bytes that rulecheck asks for its line.
 pub const LINE_BYTES: usize = 16_384;
+
+/// The most bytes that a rule has.
+pub const RULE_BYTES: usize = 255;
+
+/// The most characters that a rule's text has.
+pub const TEXT_BYTES: usize = 1_280;

@@ -100,6 +100,20 @@ pub struct Searched {
     pub pairs: u64,
 }
 
+/// What `gc_read_text` and `gc_write_text` answer.
+#[repr(C)]
+#[derive(Debug, Clone, Copy, Default, PartialEq, Eq)]
+pub struct Text {
+    /// 0 for an answer, else the refusal's number.
+    pub refused: u64,
+    /// Where the refusal is.
+    pub place: u64,
+    /// The number of bytes, or of characters, that were written.
+    pub length: u64,
+    /// The number of states of the rule's table.
+    pub weight: u64,
+}
+
 /// What a search is lent. Each slice wants [`ENTRIES`](crate::ENTRIES) entries or more.
 #[derive(Debug)]
 pub struct Lent<'a> {
@@ -114,7 +128,7 @@ pub struct Lent<'a> {
 }
 
 mod c {
-    use super::{Built, Judged, Model, Moved, Rule, Searched, Stepped};
+    use super::{Built, Judged, Model, Moved, Rule, Searched, Stepped, Text};
 
     extern "C" {
         pub fn gc_read_rule(rule: *const u8, rule_len: usize) -> Rule;
@@ -165,6 +179,14 @@ mod c {
             out: *mut u8,
             out_len: usize,
         ) -> u64;
+        pub fn gc_read_text(text: *const u8, text_len: usize, out: *mut u8, out_len: usize)
+            -> Text;
+        pub fn gc_write_text(
+            rule: *const u8,
+            rule_len: usize,
+            out: *mut u8,
+            out_len: usize,
+        ) -> Text;
     }
 }
 
@@ -255,6 +277,18 @@ pub fn search(rule: &[u8], model: &[u8], lent: &mut Lent<'_>) -> Searched {
 pub fn rulecheck(input: &[u8], out: &mut [u8]) -> u64 {
     // SAFETY: `out` is borrowed alone, so it does not overlap `input`.
     unsafe { c::gc_rulecheck(input.as_ptr(), input.len(), out.as_mut_ptr(), out.len()) }
+}
+
+/// `gc_read_text`: the bytes of a text's rule into a lent slice.
+pub fn read_text(text: &[u8], out: &mut [u8]) -> Text {
+    // SAFETY: `out` is borrowed alone, so it does not overlap `text`.
+    unsafe { c::gc_read_text(text.as_ptr(), text.len(), out.as_mut_ptr(), out.len()) }
+}
+
+/// `gc_write_text`: the text of a rule's bytes into a lent slice.
+pub fn write_text(rule: &[u8], out: &mut [u8]) -> Text {
+    // SAFETY: `out` is borrowed alone, so it does not overlap `rule`.
+    unsafe { c::gc_write_text(rule.as_ptr(), rule.len(), out.as_mut_ptr(), out.len()) }
 }
 
 #[cfg(test)]

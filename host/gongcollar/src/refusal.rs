@@ -42,7 +42,7 @@ macro_rules! refusals {
                 }
             }
 
-            /// The offset of the byte in the rule or the model, or the index of the letter; 0 where there is none.
+            /// The offset of the byte in the rule, the model or the text, or the index of the letter; 0 where there is none.
             pub fn place(&self) -> u64 {
                 match *self {
                     $(Refusal::$name { place } => place,)*
@@ -80,6 +80,9 @@ refusals! {
     ShortSlice = 21: "a lent slice below 4,096 entries";
     EventLetter = 22: "an event's letter above 63";
     TooManyLetters = 23: "more than 16 letters to judge";
+    TextTooLong = 30: "the text has more than 1,280 characters";
+    NoText = 31: "no rule text has this character here";
+    ShortOutput = 32: "the output is shorter than what would be written";
 }
 
 impl Refusal {

@@ -20,6 +20,7 @@
 //! | bytes to models | `model` | [`read_model`], [`Model`] |
 //! | the search and its count | `search` | [`search()`], [`Searched`] |
 //! | what rulecheck prints | `line` | [`line()`] |
+//! | rules as text | `text` | [`read_text`], [`write_text`], [`Given`] |
 
 #![forbid(unsafe_code)]
 #![warn(missing_docs)]
@@ -36,6 +37,7 @@ mod rule;
 mod search;
 mod set;
 mod table;
+mod text;
 mod walk;
 
 pub use formula::Formula;
@@ -48,4 +50,5 @@ pub use refusal::Refusal;
 pub use rule::Rule;
 pub use search::{search, Searched};
 pub use table::{build, Table, TABLE_ENTRIES};
+pub use text::{read_text, write_text, Given};
 pub use walk::{follow, step};

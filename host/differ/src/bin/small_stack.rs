@@ -3,10 +3,11 @@
 //!
 //! A stack that does not suffice ends the process by a signal; an answer that is wrong gives the status 1.
 
+use cases::texts;
 use cases::{heavy, hostile, line_input, models};
 use differ::expected;
 use gongcollar::raw::{self, Built, Judged, Moved, Rule};
-use gongcollar::{Workspace, ENTRIES};
+use gongcollar::{read_text_into, write_text_into, Workspace, ENTRIES, RULE_BYTES, TEXT_BYTES};
 use std::process::ExitCode;
 use std::thread;
 
@@ -67,6 +68,36 @@ fn inputs() -> Vec<Vec<u8>> {
     hostile::rules().into_iter().chain(heavy).collect()
 }
 
+/// What reading a text says: the bytes and the weight, or the refusal's number and place.
+type Read = Result<(Vec<u8>, u64), (u64, u64)>;
+
+fn text_by_library(text: &[u8]) -> Read {
+    let mut out = [0; RULE_BYTES];
+    read_text_into(text, &mut out)
+        .map(|(bytes, rule)| (bytes.to_vec(), rule.weight))
+        .map_err(|refusal| (refusal.number(), refusal.place()))
+}
+
+fn text_by_the_book(text: &[u8]) -> Read {
+    plain::read_text(text, RULE_BYTES)
+        .map(|given| (given.written, given.weight))
+        .map_err(|refusal| (refusal.number, refusal.place))
+}
+
+/// The text of a rule, if it has one.
+fn written_by_library(rule: &[u8]) -> Option<Vec<u8>> {
+    let mut out = [0; TEXT_BYTES];
+    write_text_into(rule, &mut out)
+        .ok()
+        .map(|(text, _)| text.to_vec())
+}
+
+fn written_by_the_book(rule: &[u8]) -> Option<Vec<u8>> {
+    plain::write_text(rule, TEXT_BYTES)
+        .ok()
+        .map(|given| given.written)
+}
+
 /// How many rules the libraries differ on.
 fn differing(rules: &[Vec<u8>], model: &[u8], said: &[Said]) -> usize {
     let differs = |(rule, said): &(&Vec<u8>, &Said)| by_the_book(rule, model) != **said;
@@ -77,15 +108,24 @@ fn main() -> ExitCode {
     let rules = inputs();
     let model = models::full(models::MOST_STATES);
     let said: Vec<Said> = rules.iter().map(|rule| by_library(rule, &model)).collect();
-    let count = rules.len();
+    let texts = texts::hostile();
+    let read: Vec<Read> = texts.iter().map(|text| text_by_library(text)).collect();
+    let written: Vec<_> = rules.iter().map(|rule| written_by_library(rule)).collect();
+    let (count, text_count) = (rules.len(), texts.len());
     let checker = thread::Builder::new().stack_size(LARGE_STACK);
-    let checked = checker.spawn(move || differing(&rules, &model, &said));
+    let checked = checker.spawn(move || {
+        let texts = texts.iter().zip(&read);
+        let wrong_texts = texts.filter(|(text, read)| text_by_the_book(text) != **read);
+        let written = rules.iter().zip(&written);
+        let wrong_written = written.filter(|(rule, text)| written_by_the_book(rule) != **text);
+        differing(&rules, &model, &said) + wrong_texts.count() + wrong_written.count()
+    });
     let Some(wrong) = checked.ok().and_then(|thread| thread.join().ok()) else {
         eprintln!("the plain library could not be asked");
         return ExitCode::FAILURE;
     };
     println!(
-        "{count} hostile rules through six calls each on this stack, {wrong} answered wrongly"
+        "{count} hostile rules through seven calls each and {text_count} hostile texts on this stack, {wrong} answered wrongly"
     );
     ExitCode::from(u8::from(wrong > 0))
 }

@@ -8,4 +8,5 @@ mod interface;
 mod refusals;
 mod slices;
 mod source;
+mod texts;
 mod worked;

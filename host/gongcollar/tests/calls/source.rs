@@ -109,7 +109,7 @@ fn exchanged_fields_and_parameters_are_seen() {
         ),
         ("letter: u8", "letter: u64"),
         ("pub matched: u64", "pub matched: u32"),
-        ("out: &mut [u8]", "out: &[u8]"),
+        ("text: &[u8], out: &mut [u8]", "text: &[u8], out: &[u8]"),
     ] {
         assert_eq!(source.matches(ours).count(), 1, "{ours}");
         let changed = interface(&source.replace(ours, exchanged));

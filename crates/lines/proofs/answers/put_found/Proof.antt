@@ -2,8 +2,9 @@
 use native.Mathlib.Omega.{arith}
 use mathlib.Core.List.{_++_}
 use lib.ListN.{take}
-use Rattle.lines.specs.Text.{foundWord, pairsWord, colon, named, statesText, foundText}
-use Rattle.lines.proofs.Wrotes.{wrote-more, first-room, then-room}
+use Rattle.writing.specs.Decimal.{named}
+use Rattle.lines.specs.Text.{foundWord, pairsWord, colon, statesText, foundText}
+use Rattle.writing.proofs.Wrotes.{wrote-more, first-room, then-room}
 use borrow.Author.Needs.{needs}
 use Rattle.lines.proofs.answers.put_found.Statement.{statement}
 use Rattle.lines.proofs.answers.put_found.Tie as tie

@@ -2,7 +2,7 @@
 use native.Mathlib.Omega.{arith}
 use lib.ListN.{take}
 use Rattle.lines.specs.Text.{colon, statesText}
-use Rattle.lines.proofs.Wrotes.{wrote-more, first-room, then-room}
+use Rattle.writing.proofs.Wrotes.{wrote-more, first-room, then-room}
 use borrow.Author.Needs.{needs}
 use Rattle.lines.proofs.answers.put_run.Statement.{statement}
 use Rattle.lines.proofs.answers.put_run.Tie as tie

@@ -1,8 +1,8 @@
 -- `put_state` writes a blank and the number of a state. Assumes nothing.
 use native.Mathlib.Omega.{arith}
 use mathlib.Core.List.{[], _∷_}
-use Rattle.lines.specs.Decimal.{decimal}
-use Rattle.lines.proofs.Wrotes.{wrote-more, first-room, then-room}
+use Rattle.writing.specs.Decimal.{decimal}
+use Rattle.writing.proofs.Wrotes.{wrote-more, first-room, then-room}
 use borrow.Author.Needs.{needs}
 use Rattle.lines.proofs.answers.put_state.Statement.{statement}
 use Rattle.lines.proofs.answers.put_state.Tie as tie

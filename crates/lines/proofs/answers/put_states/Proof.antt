@@ -3,7 +3,7 @@ use Prim.Native.Nat.{_-_, _≤_}
 use native.Mathlib.Omega.{arith}
 use lib.ListN.{take}
 use Rattle.lines.specs.Text.{statesText}
-use Rattle.lines.specs.Writing.{Wrote}
+use Rattle.writing.specs.Wrote.{Wrote}
 use Rattle.lines.proofs.States.{states-none, state-room, state-turn, states-whole}
 use borrow.Author.Needs.{needs}
 use Rattle.lines.proofs.answers.put_states.Statement.{statement}

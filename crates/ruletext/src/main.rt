@@ -1,0 +1,34 @@
+// Reads a rule's text from standard input and prints its rule's bytes as hexadecimal numbers, or the refusal. A newline may close the text.
+// Where a read or a write fails there is no answer, and standard error says so.
+ghost use Prim.Native.Nat.{_≤_};
+ghost use lib.ListN.{length, take};
+ghost use Rattle.ruletext.specs.Printed.{Lent, PrintedFor};
+use streams::Input;
+use text_lines::LINE_ROOM;
+use writing::front;
+
+// A text of 1,280 characters, one more, and a newline: what comes after never changes the line.
+const INPUT_ROOM: usize = 1282;
+
+// All but the system's calls: the first `long` bytes of `space` were read, and `out` is to begin with what is printed, so many bytes of it.
+fn printed(space: &[u8], long: usize, out: &mut [u8]) -> usize
+    requires { ⌜ Lent (now space) long (now out) ⌝ }
+    ensures { λ r. ⌜ PrintedFor (take long (now (space .entry))) (now (out .entry)) (now (out .exit)) r ⌝ }
+{
+    text_lines::line(front(space, long), out)
+}
+
+fn main() {
+    let mut space = [0u8; INPUT_ROOM];
+    let mut out = [0u8; LINE_ROOM];
+    let input = streams::read_input(&mut space);
+    match input {
+        Input::Whole(long) => {
+            let end = printed(&space, long, &mut out);
+            if !streams::write_output(front(&out, end)) {
+                os::fail(b"ruletext: standard output could not be written, no answer");
+            }
+        }
+        Input::Failed => os::fail(b"ruletext: standard input could not be read, no answer"),
+    }
+}

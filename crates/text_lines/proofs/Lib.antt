@@ -1,0 +1,5 @@
+pub mod Hexes
+pub mod Inputs
+pub mod Cases
+pub mod Once
+pub mod Beginning

@@ -1,0 +1,3 @@
+pub mod Wrote
+pub mod Decimal
+pub mod Refused
