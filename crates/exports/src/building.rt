@@ -3,7 +3,6 @@ ghost use mathlib.Core.Path.{_≡_};
 ghost use Rattle.tables.specs.Answer as tables;
 ghost use Rattle.exports.specs.Numbers.{builtNumbers};
 ghost use Rattle.exports.specs.Promise.{Built};
-use crate::refusals::SHORT_SLICE;
 use tables::TableAnswer;
 
 // What building gives back: the weight, and the set of the final states.
@@ -13,18 +12,6 @@ pub struct GcBuilt {
     pub place: u64,
     pub weight: u64,
     pub finals: u64,
-}
-
-// A refusal: the rest is 0.
-fn refused(number: u64, place: u64) -> GcBuilt
-    ensures { λ r. ⌜ r ≡ builtNumbers (tables.refused number place) ⌝ }
-{
-    GcBuilt {
-        refused: number,
-        place,
-        weight: 0,
-        finals: 0,
-    }
 }
 
 // The numbers for each case of the answer.
@@ -38,8 +25,12 @@ fn built_numbers(answer: TableAnswer) -> GcBuilt
             weight: rule.weight as u64,
             finals,
         },
-        TableAnswer::RuleRefused(x) => refused(x.number(), x.place() as u64),
-        TableAnswer::ShortTable => refused(SHORT_SLICE, 0),
+        TableAnswer::Refused(x) => GcBuilt {
+            refused: x.number(),
+            place: x.place() as u64,
+            weight: 0,
+            finals: 0,
+        },
     }
 }
 

@@ -2,10 +2,7 @@
 ghost use mathlib.Core.Path.{_≡_};
 ghost use Rattle.walkers.specs.Walks.{ending, followOf};
 ghost use Rattle.exports.specs.Numbers.{movedNumbers};
-use crate::refusals::NO_LETTER;
-use crate::refusals::SHORT_SLICE;
 use walkers::FollowAnswer;
-use walkers::Refusal;
 
 // What a sequence comes to: 1 where a final is in the set at its end.
 #[repr(C)]
@@ -25,17 +22,10 @@ fn moved_numbers(answer: FollowAnswer) -> GcMoved
             place: 0,
             matches: matches as u64,
         },
-        FollowAnswer::Refused(x) => match x {
-            Refusal::ShortTable => GcMoved {
-                refused: SHORT_SLICE,
-                place: 0,
-                matches: 0,
-            },
-            Refusal::BadLetter(i) => GcMoved {
-                refused: NO_LETTER,
-                place: i as u64,
-                matches: 0,
-            },
+        FollowAnswer::Refused(x) => GcMoved {
+            refused: x.number(),
+            place: x.place() as u64,
+            matches: 0,
         },
     }
 }

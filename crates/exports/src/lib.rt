@@ -1,7 +1,6 @@
 // The C interface that include/gongcollar.h declares: one thin function for each call of the library.
 // An answer is a struct of numbers by value; a slice is passed as a pointer and a length.
 
-mod refusals; // the numbers of refusals
 mod reading; // a rule, a model
 mod building; // a rule's table
 mod judging; // the plain judge

@@ -5,7 +5,6 @@ ghost use mathlib.Core.List.{List};
 ghost use Rattle.search.specs.Answer as search;
 ghost use Rattle.exports.specs.Numbers.{searchedNumbers};
 ghost use Rattle.exports.specs.Promise.{Searches};
-use crate::refusals::SHORT_SLICE;
 use search::SearchAnswer;
 use search::inner::Searched;
 
@@ -17,19 +16,6 @@ pub struct GcSearched {
     pub found: u64,
     pub length: u64,
     pub pairs: u64,
-}
-
-// A refusal: the rest is 0.
-fn refused(number: u64, place: u64) -> GcSearched
-    ensures { λ r. ⌜ r ≡ searchedNumbers (search.refused number place) ⌝ }
-{
-    GcSearched {
-        refused: number,
-        place,
-        found: 0,
-        length: 0,
-        pairs: 0,
-    }
 }
 
 // The numbers for each case of the answer.
@@ -53,9 +39,13 @@ fn searched_numbers(answer: SearchAnswer) -> GcSearched
                 pairs: pairs as u64,
             },
         },
-        SearchAnswer::RuleRefused(x) => refused(x.number(), x.place() as u64),
-        SearchAnswer::ModelRefused(x) => refused(x.number(), x.place() as u64),
-        SearchAnswer::ShortSlice => refused(SHORT_SLICE, 0),
+        SearchAnswer::Refused(x) => GcSearched {
+            refused: x.number(),
+            place: x.place() as u64,
+            found: 0,
+            length: 0,
+            pairs: 0,
+        },
     }
 }
 

@@ -1,10 +1,7 @@
 // Stepping a walker, which is its set and its finals.
 ghost use mathlib.Core.Path.{_≡_};
 ghost use Rattle.walkers.specs.Steps as walkers;
-ghost use Rattle.exports.specs.Numbers.{stepNumbers, steppedNumbers, walker};
-use crate::refusals::NO_LETTER;
-use crate::refusals::SHORT_SLICE;
-use walkers::Refusal;
+ghost use Rattle.exports.specs.Numbers.{steppedNumbers, walker};
 use walkers::Step;
 use walkers::StepAnswer;
 use walkers::Walker;
@@ -16,18 +13,6 @@ pub struct GcStepped {
     pub place: u64,
     pub set: u64,
     pub matched: u64,
-}
-
-// A refusal: the set is as it came.
-fn refused(set: u64, number: u64, place: u64) -> GcStepped
-    ensures { λ r. ⌜ r ≡ stepNumbers set (walkers.refusal number place) ⌝ }
-{
-    GcStepped {
-        refused: number,
-        place,
-        set,
-        matched: 0,
-    }
 }
 
 // The numbers for each case of the answer.
@@ -43,9 +28,11 @@ fn stepped_numbers(step: Step) -> GcStepped
             set,
             matched: matched as u64,
         },
-        StepAnswer::Refused(x) => match x {
-            Refusal::ShortTable => refused(set, SHORT_SLICE, 0),
-            Refusal::BadLetter(i) => refused(set, NO_LETTER, i as u64),
+        StepAnswer::Refused(x) => GcStepped {
+            refused: x.number(),
+            place: x.place() as u64,
+            set,
+            matched: 0,
         },
     }
 }

@@ -10,6 +10,7 @@ use Rattle.rules.specs.declared.RuleAnswer.{RuleAnswer}
 use Rattle.rules.specs.declared.RuleAnswer.the-variants.{Accepted, Refused}
 use Rattle.rules.specs.Definition1.{Rule}
 use Rattle.rules.specs.Refusals.{number, place}
+use Rattle.rules.specs.Numbers.{badLetter, tooManyLetters}
 use Rattle.rules.specs.Answer as rules
 use Rattle.rules.specs.Answer.{answer, AcceptedAs, knownOf}
 use Rattle.rules.proofs.Accepting.{accepted-rule, accepted-stands}
@@ -27,10 +28,10 @@ module _ (s w : List ℕ) (a : RuleAnswer) (read : rules.told a ≡ answer s) wh
     pub read-as : (r : Rule) × AcceptedAs s r × (k ≡ knownOf r)
     read-as = accepted-rule s k (sym read ∙ ap rules.told q)
 
-    pub right-many : letterLimit < length w → Right s w (refused 23 0)
+    pub right-many : letterLimit < length w → Right s w (refused tooManyLetters 0)
     right-many l = too-many (read-as .1) l
 
-    pub right-stray : Few w → (i : ℕ) → StrayAt w i → Right s w (refused 22 i)
+    pub right-stray : Few w → (i : ℕ) → StrayAt w i → Right s w (refused badLetter i)
     right-stray few i h = no-letter (read-as .1) few h
 
     pub right-judged : Few w → LettersTo w (length w) → (b : Bool) → AcceptsAs s w b → Right s w (judged b k)

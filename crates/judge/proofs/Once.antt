@@ -10,9 +10,13 @@ use Rattle.rules.specs.Definition1.{Rule}
 use Rattle.rules.specs.Definition2.{Sat}
 use Rattle.rules.specs.Answer.{AcceptedAs, knownOf}
 use Rattle.rules.proofs.Accepting.{not-refused, accepted-once}
-use Rattle.rules.proofs.Once.{handedOn, handed-on}
+use Rattle.rules.specs.Numbers.{badLetter}
+use Rattle.rules.proofs.Once.{told-once, handedOn, handed-on}
+use Rattle.judge.specs.declared.Refusal.{Refusal}
+use Rattle.judge.specs.declared.Refusal.the-variants.{OfRule, TooManyLetters, BadLetter}
 use Rattle.judge.specs.declared.JudgeAnswer.{JudgeAnswer}
-use Rattle.judge.specs.declared.JudgeAnswer.the-variants.{Judged, RuleRefused, TooManyLetters, NoLetter}
+use Rattle.judge.specs.declared.JudgeAnswer.the-variants.{Judged, Refused}
+use Rattle.judge.specs.Refusals.{number, place}
 use Rattle.judge.specs.Verdict.{Verdict, judged, refused, told, Right, rule-refused, too-many, no-letter, decided}
 use Rattle.bits.proofs.Sayings.{says-once}
 use Rattle.judge.proofs.Strays.{stray-once, no-stray}
@@ -36,24 +40,30 @@ module _ (s w : List ℕ) where
   one-verdict (too-many a l) (decided a′ f h d) = absurd (omega (arith, f .few))
   one-verdict (no-letter a f h) (rule-refused q) = absurd (not-refused s _ _ _ q a)
   one-verdict (no-letter a f h) (too-many a′ l) = absurd (omega (arith, f .few))
-  one-verdict (no-letter a f h) (no-letter a′ f′ h′) = ap (refused 22) (stray-once w _ _ h h′)
+  one-verdict (no-letter a f h) (no-letter a′ f′ h′) = ap (refused badLetter) (stray-once w _ _ h h′)
   one-verdict (no-letter a f h) (decided a′ f′ h′ d) = absurd (no-stray w _ h h′)
   one-verdict (decided a f h d) (rule-refused q) = absurd (not-refused s _ _ _ q a)
   one-verdict (decided a f h d) (too-many a′ l) = absurd (omega (arith, f .few))
   one-verdict (decided a f h d) (no-letter a′ f′ h′) = absurd (no-stray w _ h′ h)
   one-verdict (decided a f h d) (decided a′ f′ h′ d′) = same-answer _ _ a a′ _ _ d d′
 
--- the answer that a verdict tells of: `told` loses nothing
+-- the refusal of a number and a place, and the answer that a verdict tells of: `told` loses nothing
+abbrev named : ℕ → ℕ → Refusal
+named n p = handedOn OfRule (cond (eqb n badLetter) (BadLetter p) TooManyLetters) n p
+
+named-told : (x : Refusal) → named (number x) (place x) ≡ x
+named-told (OfRule x) = handed-on OfRule _ x
+named-told TooManyLetters = refl
+named-told (BadLetter i) = refl
+
 abbrev meant : Verdict → JudgeAnswer
 meant (judged b k) = Judged b k
-meant (refused n p) = handedOn RuleRefused (cond (eqb n 22) (NoLetter p) TooManyLetters) n p
+meant (refused n p) = Refused (named n p)
 
 meant-told : (a : JudgeAnswer) → meant (told a) ≡ a
 meant-told (Judged b k) = refl
-meant-told (RuleRefused x) = handed-on RuleRefused _ x
-meant-told TooManyLetters = refl
-meant-told (NoLetter i) = refl
+meant-told (Refused x) = ap Refused (named-told x)
 
 -- no second answer fits the promise of `judge`
 pub one-answer : (s w : List ℕ) (a b : JudgeAnswer) → Right s w (told a) → Right s w (told b) → a ≡ b
-one-answer s w a b ra rb = sym (meant-told a) ∙ ap meant (one-verdict s w ra rb) ∙ meant-told b
+one-answer s w a b ra rb = told-once told meant meant-told a b (one-verdict s w ra rb)

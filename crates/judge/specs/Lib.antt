@@ -1,4 +1,5 @@
 pub mod Parts
 pub mod Cut
 pub mod Judging
+pub mod Refusals
 pub mod Verdict

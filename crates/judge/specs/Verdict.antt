@@ -8,13 +8,14 @@ use Rattle.bits.specs.Says.{Says}
 use Rattle.rules.specs.declared.Known.{Known}
 use Rattle.rules.specs.Definition1.{Rule}
 use Rattle.rules.specs.Definition2.{letterCount, Sat}
-use Rattle.rules.specs.Refusals.{number, place}
+use Rattle.rules.specs.Numbers.{badLetter, tooManyLetters}
 use Rattle.rules.specs.Answer as rules
 use Rattle.rules.specs.Answer.{answer, AcceptedAs, knownOf}
 use Rattle.judge.specs.declared.JudgeAnswer.{JudgeAnswer}
-use Rattle.judge.specs.declared.JudgeAnswer.the-variants.{Judged, RuleRefused, TooManyLetters, NoLetter}
+use Rattle.judge.specs.declared.JudgeAnswer.the-variants.{Judged, Refused}
 use Rattle.judge.specs.declared.letters.Scanned.{Scanned}
 use Rattle.judge.specs.declared.letters.Scanned.the-variants.{AllLetters, StraysAt}
+use Rattle.judge.specs.Refusals.{number, place}
 use Rattle.judge.specs.Parts.{letterLimit, Few}
 
 -- yes or no, with what is known of the rule; or refused, with number and place
@@ -25,9 +26,7 @@ pub data Verdict : Type 0 where
 -- the paper's number and values for each case of the answer
 abbrev pub told : JudgeAnswer → Verdict
 told (Judged b k) = judged b k
-told (RuleRefused x) = refused (number x) (place x)
-told TooManyLetters = refused 23 0
-told (NoLetter i) = refused 22 i
+told (Refused x) = refused (number x) (place x)
 
 -- below the index n stand letters only
 pub record LettersTo (w : List ℕ) (n : ℕ) : Type 0 where
@@ -47,6 +46,6 @@ ScannedAs w (StraysAt i) = StrayAt w i
 -- the right verdict on the rule's bytes s and the letters w: the rule's own refusal, then 23, then 22; else yes exactly if the rule accepts w
 pub data Right (s w : List ℕ) : Verdict → Type 0 where
   rule-refused : {n p : ℕ} → answer s ≡ rules.refused n p → Right s w (refused n p)
-  too-many : {r : Rule} → AcceptedAs s r → letterLimit < length w → Right s w (refused 23 0)
-  no-letter : {r : Rule} {i : ℕ} → AcceptedAs s r → Few w → StrayAt w i → Right s w (refused 22 i)
+  too-many : {r : Rule} → AcceptedAs s r → letterLimit < length w → Right s w (refused tooManyLetters 0)
+  no-letter : {r : Rule} {i : ℕ} → AcceptedAs s r → Few w → StrayAt w i → Right s w (refused badLetter i)
   decided : {r : Rule} {b : Bool} → AcceptedAs s r → Few w → LettersTo w (length w) → Says b (Sat r w) → Right s w (judged b (knownOf r))

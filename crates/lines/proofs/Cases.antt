@@ -5,14 +5,12 @@ use mathlib.Core.Path.{_≡_, sym, ap, ap₂, subst, _∙_}
 use mathlib.Core.List.{List}
 use lib.ListN.{length, take}
 use Rattle.rules.specs.declared.Known.{Known}
-use Rattle.rules.specs.Refusals as rules
-use Rattle.rules.specs.declared.Refusal as rule-refusal
-use Rattle.models.specs.Answer as models
-use Rattle.models.specs.declared.Refusal as model-refusal
 use Rattle.search.specs.declared.inner.Searched.{Searched}
 use Rattle.search.specs.declared.inner.Searched.the-variants.{Found, Nothing}
 use Rattle.search.specs.declared.SearchAnswer.{SearchAnswer}
-use Rattle.search.specs.declared.SearchAnswer.the-variants.{Answered, RuleRefused, ModelRefused, ShortSlice}
+use Rattle.search.specs.declared.SearchAnswer.the-variants.{Answered, Refused}
+use Rattle.search.specs.declared.Refusal.{Refusal}
+use Rattle.search.specs.Refusals.{number, place}
 use Rattle.search.specs.Answer.{told}
 use Rattle.lines.specs.Text.{foundText, noneText, textOf}
 use Rattle.writing.specs.Refused.{refusedText}
@@ -48,13 +46,5 @@ module _ (answer : SearchAnswer) (run : List ℕ) {before after : List ℕ} {end
   pub none-says : {x : Searched} {k : Known} (pairs : ℕ) → answer ≡ Answered x k → x ≡ Nothing pairs → Wrote (noneText pairs) before 0 after end → Wrote (textOf (told answer run)) before 0 after end
   none-says {x} {k} pairs e q w = says (sym (ap (λ (a : SearchAnswer). textOf (told a run)) (e ∙ ap (λ (y : Searched). Answered y k) q))) w
 
-  pub rule-says : (x : rule-refusal.Refusal) {n p : ℕ} → answer ≡ RuleRefused x → n ≡ rules.number x → p ≡ rules.place x → Wrote (refusedText n p) before 0 after end
-      → Wrote (textOf (told answer run)) before 0 after end
-  rule-says x e a b w = says (ap₂ refusedText a b ∙ sym (ap (λ (z : SearchAnswer). textOf (told z run)) e)) w
-
-  pub model-says : (x : model-refusal.Refusal) {n p : ℕ} → answer ≡ ModelRefused x → n ≡ models.number x → p ≡ models.place x → Wrote (refusedText n p) before 0 after end
-      → Wrote (textOf (told answer run)) before 0 after end
-  model-says x e a b w = says (ap₂ refusedText a b ∙ sym (ap (λ (z : SearchAnswer). textOf (told z run)) e)) w
-
-  pub short-says : answer ≡ ShortSlice → Wrote (refusedText 21 0) before 0 after end → Wrote (textOf (told answer run)) before 0 after end
-  short-says e w = says (sym (ap (λ (z : SearchAnswer). textOf (told z run)) e)) w
+  pub refused-says : (x : Refusal) {n p : ℕ} → answer ≡ Refused x → n ≡ number x → p ≡ place x → Wrote (refusedText n p) before 0 after end → Wrote (textOf (told answer run)) before 0 after end
+  refused-says x e a b w = says (ap₂ refusedText a b ∙ sym (ap (λ (z : SearchAnswer). textOf (told z run)) e)) w

@@ -13,7 +13,7 @@ use Rattle.models.specs.Answer as models
 use Rattle.models.proofs.Soundness.{answer-held}
 use Rattle.search.specs.declared.inner.Searched.the-variants.{Found, Nothing}
 use Rattle.search.specs.declared.SearchAnswer.{SearchAnswer}
-use Rattle.search.specs.declared.SearchAnswer.the-variants.{Answered, RuleRefused, ModelRefused, ShortSlice}
+use Rattle.search.specs.declared.SearchAnswer.the-variants.{Answered, Refused}
 use Rattle.search.specs.Right.{Answer, found, Right}
 use Rattle.search.specs.Answer.{Slices, Result, answered, SearchRight, rule-refused, model-refused, short-slice, searched, told}
 use Rattle.writing.specs.Decimal.{named}
@@ -61,6 +61,4 @@ search-fits rule model before after bytes (Answered (Found long pairs) k) out l 
     let t = length-take long (after .run) in
     record { room = l; run-there = omega (arith, f .0); run-short = omega (arith, f .0, f .1) }
 search-fits rule model before after bytes (Answered (Nothing pairs) k) out l e x = record { room = l; run-there = omega arith; run-short = omega arith }
-search-fits rule model before after bytes (RuleRefused x) out l e r = record { room = l; run-there = omega arith; run-short = omega arith }
-search-fits rule model before after bytes (ModelRefused x) out l e r = record { room = l; run-there = omega arith; run-short = omega arith }
-search-fits rule model before after bytes ShortSlice out l e r = record { room = l; run-there = omega arith; run-short = omega arith }
+search-fits rule model before after bytes (Refused x) out l e r = record { room = l; run-there = omega arith; run-short = omega arith }

@@ -3,7 +3,7 @@ use Prim.Native.Nat.{ℕ, _*_, _≤_}
 use mathlib.Core.List.{List}
 use lib.ListN.{length, take}
 use Rattle.search.specs.declared.SearchAnswer.{SearchAnswer}
-use Rattle.search.specs.declared.SearchAnswer.the-variants.{Answered, RuleRefused, ModelRefused, ShortSlice}
+use Rattle.search.specs.declared.SearchAnswer.the-variants.{Answered, Refused}
 use Rattle.search.specs.Answer.{givenLength}
 use Rattle.lines.specs.Text.{statesText}
 
@@ -14,9 +14,7 @@ lineRoom = 16384
 -- how many states of the run an answer shows
 abbrev pub shownLength : SearchAnswer → ℕ
 shownLength (Answered searched known) = givenLength searched
-shownLength (RuleRefused x) = 0
-shownLength (ModelRefused x) = 0
-shownLength ShortSlice = 0
+shownLength (Refused x) = 0
 
 -- the output is long enough, the run is there, and a state of it takes no more than a blank and two digits
 pub record Fits (answer : SearchAnswer) (run out : List ℕ) : Type 0 where

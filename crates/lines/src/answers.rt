@@ -23,9 +23,6 @@ const COLON: u8 = 58;
 
 const NONE_PAIRS: [u8; 11] = *b"none pairs ";
 
-// The number and the place of the refusal for a slice that is too short.
-const SHORT_SLICE: u64 = 21;
-
 // A state of a run, a blank before it.
 fn put_state(out: &mut [u8], at: usize, state: u8) -> usize
     requires { ⌜ at + length (stateText state) ≤ length (now out) ⌝ }
@@ -83,8 +80,6 @@ pub fn put_answer(out: &mut [u8], answer: SearchAnswer, run: &[u8]) -> usize
             Searched::Found { long, pairs } => put_found(out, run, long, pairs),
             Searched::Nothing { pairs } => put_none(out, pairs),
         },
-        SearchAnswer::RuleRefused(x) => put_refused(out, x.number(), x.place()),
-        SearchAnswer::ModelRefused(x) => put_refused(out, x.number(), x.place()),
-        SearchAnswer::ShortSlice => put_refused(out, SHORT_SLICE, 0),
+        SearchAnswer::Refused(x) => put_refused(out, x.number(), x.place()),
     }
 }

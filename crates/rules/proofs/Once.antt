@@ -12,6 +12,10 @@ use Rattle.rules.specs.declared.RuleAnswer.the-variants.{Accepted, Refus
 use Rattle.rules.specs.Refusals.{number, place}
 use Rattle.rules.specs.Answer.{Result, accepted, refused, answer, told}
 
+-- what is told determines what it was told of, where it can be taken back: the one law by which no second answer fits
+pub told-once : {A B : Type 0} (tell : A → B) (back : B → A) → ((a : A) → back (tell a) ≡ a) → (a b : A) → tell a ≡ tell b → a ≡ b
+told-once tell back inverse a b e = sym (inverse a) ∙ ap back e ∙ inverse b
+
 -- the rule's refusal of a number and a place
 abbrev named : ℕ → ℕ → Refusal
 named n p =
@@ -59,4 +63,4 @@ meant-told (Accepted k) = refl
 meant-told (Refused x) = ap Refused (named-told x)
 
 pub one-answer : (s : List ℕ) (a b : RuleAnswer) → told a ≡ answer s → told b ≡ answer s → a ≡ b
-one-answer s a b p q = sym (meant-told a) ∙ ap meant (p ∙ sym q) ∙ meant-told b
+one-answer s a b p q = told-once told meant meant-told a b (p ∙ sym q)

@@ -3,6 +3,7 @@ pub mod Definition2
 pub mod Kinds
 pub mod Weight
 pub mod Refusals
+pub mod Numbers
 pub mod Reading
 pub mod Places
 pub mod Encoding

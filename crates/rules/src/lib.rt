@@ -7,6 +7,7 @@ pub mod kinds; // what a kind byte says
 pub mod ends; // where a formula or a rule that begins at a place ends, or its first fault
 pub mod weights; // how many states a rule's table has
 pub mod formulas; // whether a formula holds in a letter, and its label
+pub mod numbers; // the numbers of the refusals that several calls share
 
 use ends::Read;
 

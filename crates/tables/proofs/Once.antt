@@ -8,9 +8,12 @@ use Rattle.rules.specs.declared.Known.{Known}
 use Rattle.rules.specs.Definition1.{Rule}
 use Rattle.rules.specs.Answer.{AcceptedAs, knownOf}
 use Rattle.rules.proofs.Accepting.{not-refused, accepted-once}
-use Rattle.rules.proofs.Once.{handedOn, handed-on}
+use Rattle.rules.proofs.Once.{told-once, handedOn, handed-on}
+use Rattle.tables.specs.declared.Refusal.{Refusal}
+use Rattle.tables.specs.declared.Refusal.the-variants.{OfRule, ShortTable}
 use Rattle.tables.specs.declared.TableAnswer.{TableAnswer}
-use Rattle.tables.specs.declared.TableAnswer.the-variants.{Tabled, RuleRefused, ShortTable}
+use Rattle.tables.specs.declared.TableAnswer.the-variants.{Tabled, Refused}
+use Rattle.tables.specs.Refusals.{number, place}
 use Rattle.tables.specs.Table.{tableOf}
 use Rattle.tables.specs.Promise.{Serves}
 use Rattle.tables.specs.IsTable.{IsTable, Words}
@@ -48,21 +51,27 @@ module _ (s t : List ℕ) where
     one-result (the-table a l lf i p) (short-table a′ l′ e) = absurd (omega arith)
     one-result (the-table a l lf i p) (the-table a′ l′ lg j q) = same-table _ _ _ _ (accepted-once s _ _ a a′) lf lg i j p q
 
--- the answer that a result tells of: `told` loses nothing
+-- the refusal of a number and a place, and the answer that a result tells of: `told` loses nothing
+abbrev named : ℕ → ℕ → Refusal
+named n p = handedOn OfRule ShortTable n p
+
+named-told : (x : Refusal) → named (number x) (place x) ≡ x
+named-told (OfRule x) = handed-on OfRule _ x
+named-told ShortTable = refl
+
 abbrev meant : Result → TableAnswer
 meant (tabled k f) = Tabled k f
-meant (refused n p) = handedOn RuleRefused ShortTable n p
+meant (refused n p) = Refused (named n p)
 
 meant-told : (a : TableAnswer) → meant (told a) ≡ a
 meant-told (Tabled k f) = refl
-meant-told (RuleRefused x) = handed-on RuleRefused _ x
-meant-told ShortTable = refl
+meant-told (Refused x) = ap Refused (named-told x)
 
 -- no second answer and no second slice fit the promise of `build`
 pub one-answer : (s t u v : List ℕ) (a b : TableAnswer) → Words u → Words v → Right s t u (told a) → Right s t v (told b) → (a ≡ b) × (u ≡ v)
 one-answer s t u v a b hu hv ra rb =
     let o = one-result s t u v hu hv ra rb in
-    (sym (meant-told a) ∙ ap meant (o .0) ∙ meant-told b, o .1)
+    (told-once told meant meant-told a b (o .0), o .1)
 
 -- what an accepted rule leaves in the slice is a table that serves it, whether the states beyond its weight are counted or not
 pub right-serves : (s t u : List ℕ) (k : Known) (f : ℕ) → Words u → Right s t u (tabled k f)

@@ -9,4 +9,5 @@ pub mod Sets
 pub mod Shapes
 pub mod Building
 pub mod Beyond
+pub mod Refusals
 pub mod Answer

@@ -33,16 +33,13 @@ fn yes_or_no(matched: bool) -> Said {
 fn judge_says(rule: &[u8], letters: &[u8]) -> Said {
     match judge::judge(rule, letters) {
         JudgeAnswer::Judged { accepts, rule: _ } => yes_or_no(accepts),
-        JudgeAnswer::RuleRefused(_) => Said::Refused,
-        JudgeAnswer::TooManyLetters => Said::Refused,
-        JudgeAnswer::NoLetter(_) => Said::Refused,
+        JudgeAnswer::Refused(_) => Said::Refused,
     }
 }
 
 fn table_says(rule: &[u8], letters: &[u8], table: &mut [u64]) -> Said {
     match tables::build(rule, table) {
-        TableAnswer::RuleRefused(_) => Said::Refused,
-        TableAnswer::ShortTable => Said::Refused,
+        TableAnswer::Refused(_) => Said::Refused,
         TableAnswer::Tabled { rule: _, finals } => match walkers::follow(table, finals, letters) {
             FollowAnswer::Ended(matched) => yes_or_no(matched),
             FollowAnswer::Refused(_) => Said::Refused,

@@ -8,9 +8,7 @@ use judge::JudgeAnswer;
 fn answered(answer: JudgeAnswer) {
     match answer {
         JudgeAnswer::Judged { accepts, rule: _ } => show::yes_or_no(accepts),
-        JudgeAnswer::RuleRefused(x) => show::refused(x.number(), x.place()),
-        JudgeAnswer::TooManyLetters => show::refused(23, 0),
-        JudgeAnswer::NoLetter(i) => show::refused(22, i),
+        JudgeAnswer::Refused(x) => show::refused(x.number(), x.place()),
     }
 }
 

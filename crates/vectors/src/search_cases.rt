@@ -67,9 +67,7 @@ fn answered(answer: SearchAnswer, run: &[u8]) {
             searched: x,
             rule: _,
         } => searched(x, run),
-        SearchAnswer::RuleRefused(x) => show::refused(x.number(), x.place()),
-        SearchAnswer::ModelRefused(x) => show::refused(x.number(), x.place()),
-        SearchAnswer::ShortSlice => show::refused(21, 0),
+        SearchAnswer::Refused(x) => show::refused(x.number(), x.place()),
     }
 }
 
@@ -161,9 +159,7 @@ fn left_as_promised(
             searched: x,
             rule: _,
         } => kept(table, marks, useful, run, written(x)),
-        SearchAnswer::RuleRefused(_) => untouched(table, marks, useful, run),
-        SearchAnswer::ModelRefused(_) => untouched(table, marks, useful, run),
-        SearchAnswer::ShortSlice => untouched(table, marks, useful, run),
+        SearchAnswer::Refused(_) => untouched(table, marks, useful, run),
     }
 }
 

@@ -60,8 +60,7 @@ fn build(name: &[u8], rule: &[u8], table: &mut [u64]) -> bool {
             show::text(b"\n");
             return true;
         }
-        TableAnswer::RuleRefused(x) => show::refused(x.number(), x.place()),
-        TableAnswer::ShortTable => show::refused(21, 0),
+        TableAnswer::Refused(x) => show::refused(x.number(), x.place()),
     }
     false
 }

@@ -5,23 +5,15 @@ use crate::bytes::put_many;
 use crate::show;
 use tables::TableAnswer;
 use walkers::FollowAnswer;
-use walkers::Refusal;
 use walkers::StepAnswer;
 use walkers::Walker;
-
-fn refused(x: Refusal) {
-    match x {
-        Refusal::ShortTable => show::refused(21, 0),
-        Refusal::BadLetter(i) => show::refused(22, i),
-    }
-}
 
 fn follow(name: &[u8], table: &[u64], finals: u64, letters: &[u8]) {
     show::text(name);
     show::text(b": ");
     match walkers::follow(table, finals, letters) {
         FollowAnswer::Ended(matched) => show::yes_or_no(matched),
-        FollowAnswer::Refused(x) => refused(x),
+        FollowAnswer::Refused(x) => show::refused(x.number(), x.place()),
     }
 }
 
@@ -37,7 +29,7 @@ fn step(table: &[u64], w: Walker, letter: u8) -> Walker {
     let answer = s.answer;
     match answer {
         StepAnswer::Moved(matched) => show::yes_or_no(matched),
-        StepAnswer::Refused(x) => refused(x),
+        StepAnswer::Refused(x) => show::refused(x.number(), x.place()),
     }
     walker
 }

@@ -11,6 +11,7 @@ use lib.ListN.{length, getD, drop}
 use lib.Seq.{drop-cons, drop-length}
 use borrow.Author.Tests.{lt-ltb, le-ltb}
 use Rattle.rules.specs.Definition2.{letterCount}
+use Rattle.rules.specs.Numbers.{shortSlice, badLetter}
 use Rattle.walkers.specs.declared.Walker.{Walker}
 use Rattle.walkers.specs.declared.Refusal.the-variants.{ShortTable, BadLetter}
 use Rattle.walkers.specs.declared.StepAnswer.the-variants.{Moved, Refused}
@@ -41,7 +42,7 @@ pub record Following (t : List ℕ) (f : ℕ) (l : List ℕ) (set i : ℕ) : Typ
   pub same : followFrom t f set i (drop i l) ≡ followFrom t f 1 0 l
 
 module _ (t : List ℕ) (f : ℕ) (l : List ℕ) where
-  pub follow-short : length t < tableEntries → refusal 21 0 ≡ followOf t f l
+  pub follow-short : length t < tableEntries → refusal shortSlice 0 ≡ followOf t f l
   unfolding followOf
   follow-short h = rw (lt-ltb (length t) tableEntries h)
 
@@ -57,7 +58,7 @@ module _ (t : List ℕ) (f : ℕ) (l : List ℕ) where
     unfolding followFrom
     next h b = rw (drop-cons l i 0 h, lt-ltb (getD l i 0) letterCount b, add-one i)
 
-    bad : i < length l → letterCount ≤ getD l i 0 → followFrom t f set i (drop i l) ≡ refusal 22 i
+    bad : i < length l → letterCount ≤ getD l i 0 → followFrom t f set i (drop i l) ≡ refusal badLetter i
     unfolding followFrom
     bad h b = rw (drop-cons l i 0 h, le-ltb (getD l i 0) letterCount b)
 
@@ -73,7 +74,7 @@ module _ (t : List ℕ) (f : ℕ) (l : List ℕ) where
           same = rw e (sym (next h b) ∙ at .same);
         }
 
-    pub follow-refused : tableEntries ≤ length t → i < length l → letterCount ≤ getD l i 0 → refusal 22 i ≡ followOf t f l
+    pub follow-refused : tableEntries ≤ length t → i < length l → letterCount ≤ getD l i 0 → refusal badLetter i ≡ followOf t f l
     follow-refused k h b = sym (bad h b) ∙ at .same ∙ sym (follow-long k)
 
     pub follow-ended : tableEntries ≤ length t → length l ≤ i → flag (not (eqb (bitAnd set f) 0)) ≡ followOf t f l

@@ -5,6 +5,8 @@ use Prim.Native.Nat.{ℕ}
 use mathlib.Core.Path.{_≡_, refl, sym, ap, _∙_}
 use mathlib.Core.List.{List}
 use lib.Dec.{eqb}
+use Rattle.rules.specs.Numbers.{shortSlice}
+use Rattle.rules.proofs.Once.{told-once}
 use Rattle.walkers.specs.declared.Walker.{Walker}
 use Rattle.walkers.specs.declared.Refusal.{Refusal}
 use Rattle.walkers.specs.declared.Refusal.the-variants.{ShortTable, BadLetter}
@@ -13,22 +15,26 @@ use Rattle.walkers.specs.declared.StepAnswer.the-variants as step-varian
 use Rattle.walkers.specs.declared.FollowAnswer.{FollowAnswer}
 use Rattle.walkers.specs.declared.FollowAnswer.the-variants as follow-variants
 use Rattle.walkers.specs.declared.Step.{Step}
+use Rattle.walkers.specs.Refusals.{number, place}
 use Rattle.walkers.specs.Steps.{Outcome, flag, refusal, outcome, Told, told, stepOf}
 use Rattle.walkers.specs.Walks.{ending, followOf, Follows}
 use Rattle.walkers.proofs.Walking.{follow-sat}
 
 -- the refusal of a number and a place
-abbrev refusalOf : ℕ → ℕ → Refusal
-refusalOf n i = cond (eqb n 21) ShortTable (BadLetter i)
+abbrev named : ℕ → ℕ → Refusal
+named n i = cond (eqb n shortSlice) ShortTable (BadLetter i)
+
+named-told : (x : Refusal) → named (number x) (place x) ≡ x
+named-told ShortTable = refl
+named-told (BadLetter i) = refl
 
 abbrev answerOf : Outcome → StepAnswer
 answerOf (flag b) = step-variants.Moved b
-answerOf (refusal n i) = step-variants.Refused (refusalOf n i)
+answerOf (refusal n i) = step-variants.Refused (named n i)
 
 answer-back : (a : StepAnswer) → answerOf (outcome a) ≡ a
 answer-back (step-variants.Moved b) = refl
-answer-back (step-variants.Refused ShortTable) = refl
-answer-back (step-variants.Refused (BadLetter i)) = refl
+answer-back (step-variants.Refused x) = ap step-variants.Refused (named-told x)
 
 abbrev stepBack : Told → Step
 stepBack d = record { walker = d .walker; answer = answerOf (d .says) }
@@ -37,19 +43,18 @@ step-back : (s : Step) → stepBack (told s) ≡ s
 step-back s = ap (λ (a : StepAnswer). record { walker = s .walker; answer = a }) (answer-back (s .answer))
 
 pub one-step : (t : List ℕ) (w : Walker) (x : ℕ) (r s : Step) → told r ≡ stepOf t w x → told s ≡ stepOf t w x → r ≡ s
-one-step t w x r s d e = sym (step-back r) ∙ ap stepBack (d ∙ sym e) ∙ step-back s
+one-step t w x r s d e = told-once told stepBack step-back r s (d ∙ sym e)
 
 abbrev followBack : Outcome → FollowAnswer
 followBack (flag b) = follow-variants.Ended b
-followBack (refusal n i) = follow-variants.Refused (refusalOf n i)
+followBack (refusal n i) = follow-variants.Refused (named n i)
 
 follow-back : (a : FollowAnswer) → followBack (ending a) ≡ a
 follow-back (follow-variants.Ended b) = refl
-follow-back (follow-variants.Refused ShortTable) = refl
-follow-back (follow-variants.Refused (BadLetter i)) = refl
+follow-back (follow-variants.Refused x) = ap follow-variants.Refused (named-told x)
 
 pub one-follow : (t : List ℕ) (f : ℕ) (l : List ℕ) (r s : FollowAnswer) → ending r ≡ followOf t f l → ending s ≡ followOf t f l → r ≡ s
-one-follow t f l r s d e = sym (follow-back r) ∙ ap followBack (d ∙ sym e) ∙ follow-back s
+one-follow t f l r s d e = told-once ending followBack follow-back r s (d ∙ sym e)
 
 -- what is told of yes is yes
 pub yes-told : (t : List ℕ) (f : ℕ) (l : List ℕ) (r : FollowAnswer) → ending r ≡ followOf t f l → (r ≡ follow-variants.Ended true) ↔ (followOf t f l ≡ flag true)

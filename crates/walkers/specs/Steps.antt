@@ -5,14 +5,14 @@ use mathlib.Core.List.{List}
 use lib.Dec.{ltb}
 use lib.ListN.{length}
 use Rattle.rules.specs.Definition2.{letterCount}
+use Rattle.rules.specs.Numbers.{shortSlice, badLetter}
 use Rattle.tables.specs.Table.{tableEntries}
 use Rattle.steps.specs.Moves.{advanced, meets}
 use Rattle.walkers.specs.declared.Walker.{Walker}
-use Rattle.walkers.specs.declared.Refusal.{Refusal}
-use Rattle.walkers.specs.declared.Refusal.the-variants.{ShortTable, BadLetter}
 use Rattle.walkers.specs.declared.StepAnswer.{StepAnswer}
 use Rattle.walkers.specs.declared.StepAnswer.the-variants.{Moved, Refused}
 use Rattle.walkers.specs.declared.Step.{Step}
+use Rattle.walkers.specs.Refusals.{number, place}
 
 -- a walker starts at {0}
 abbrev pub startOf : ℕ → Walker
@@ -23,13 +23,9 @@ pub data Outcome : Type 0 where
   flag : Bool → Outcome
   refusal : ℕ → ℕ → Outcome
 
-abbrev pub refused : Refusal → Outcome
-refused ShortTable = refusal 21 0
-refused (BadLetter i) = refusal 22 i
-
 abbrev pub outcome : StepAnswer → Outcome
 outcome (Moved b) = flag b
-outcome (Refused r) = refused r
+outcome (Refused x) = refusal (number x) (place x)
 
 -- what a step tells: the walker, and the answer in the paper's terms
 pub record Told : Type 0 where
@@ -49,5 +45,5 @@ movedBy t w x = record {
 -- one step over whatever table is lent; a refusal gives the walker back as it came
 unfoldable pub stepOf : List ℕ → Walker → ℕ → Told
 stepOf t w x =
-    cond (ltb (length t) tableEntries) (record { walker = w; says = refusal 21 0 })
-    (cond (ltb x letterCount) (movedBy t w x) (record { walker = w; says = refusal 22 0 }))
+    cond (ltb (length t) tableEntries) (record { walker = w; says = refusal shortSlice 0 })
+    (cond (ltb x letterCount) (movedBy t w x) (record { walker = w; says = refusal badLetter 0 }))

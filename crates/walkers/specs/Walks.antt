@@ -8,27 +8,29 @@ use lib.Dec.{ltb}
 use lib.ListN.{length}
 use Rattle.rules.specs.Definition1.{Rule}
 use Rattle.rules.specs.Definition2.{letterCount, Sat}
+use Rattle.rules.specs.Numbers.{shortSlice, badLetter}
 use Rattle.walkers.specs.declared.Walker.{Walker}
 use Rattle.walkers.specs.declared.FollowAnswer.{FollowAnswer}
 use Rattle.walkers.specs.declared.FollowAnswer.the-variants.{Ended, Refused}
 use Rattle.tables.specs.Table.{tableStates, tableEntries, tableOf}
 use Rattle.tables.specs.Promise.{Letters, Serves}
 use Rattle.steps.specs.Moves.{advanced, meets}
-use Rattle.walkers.specs.Steps.{startOf, Outcome, flag, refusal, refused, stepOf}
+use Rattle.walkers.specs.Refusals.{number, place}
+use Rattle.walkers.specs.Steps.{startOf, Outcome, flag, refusal, stepOf}
 
 -- the letters from place i on: the first that is no letter is refused, and after the last it is told whether a final is in the set
 unfoldable pub followFrom : List ℕ → ℕ → ℕ → ℕ → List ℕ → Outcome
 followFrom t finals set i [] = flag (meets set finals)
-followFrom t finals set i (x ∷ w) = cond (ltb x letterCount) (followFrom t finals (advanced t set x) (i + 1) w) (refusal 22 i)
+followFrom t finals set i (x ∷ w) = cond (ltb x letterCount) (followFrom t finals (advanced t set x) (i + 1) w) (refusal badLetter i)
 
 -- all letters, from {0}
 unfoldable pub followOf : List ℕ → ℕ → List ℕ → Outcome
-followOf t finals w = cond (ltb (length t) tableEntries) (refusal 21 0) (followFrom t finals (startOf finals .set) 0 w)
+followOf t finals w = cond (ltb (length t) tableEntries) (refusal shortSlice 0) (followFrom t finals (startOf finals .set) 0 w)
 
 -- an answer of `follow` in the paper's terms
 abbrev pub ending : FollowAnswer → Outcome
 ending (Ended b) = flag b
-ending (Refused r) = refused r
+ending (Refused x) = refusal (number x) (place x)
 
 -- what the last step of a walker tells; before any, what `before` says
 unfoldable pub lastSays : List ℕ → Walker → Outcome → List ℕ → Outcome

@@ -1,8 +1,11 @@
 // Follows letters through a lent table: a walker that is stepped, and a whole sequence at once.
 ghost use mathlib.Core.Path.{_≡_};
+ghost use Rattle.walkers.specs.Refusals.{number, place};
 ghost use Rattle.walkers.specs.Steps.{startOf, told, stepOf};
 ghost use Rattle.walkers.specs.Walks.{followOf, ending, Follows};
 use rules::formulas::LETTER_COUNT;
+use rules::numbers::BAD_LETTER;
+use rules::numbers::SHORT_SLICE;
 use steps::advance;
 use tables::TABLE_ENTRIES;
 
@@ -21,6 +24,28 @@ pub enum Refusal {
     ShortTable,
     // the letter at this place is none
     BadLetter(usize),
+}
+
+impl Refusal {
+    // The refusal's number.
+    pub fn number(self) -> u64
+        ensures { λ r. ⌜ r ≡ number self ⌝ }
+    {
+        match self {
+            Refusal::ShortTable => SHORT_SLICE,
+            Refusal::BadLetter(_) => BAD_LETTER,
+        }
+    }
+
+    // The letter that it is about.
+    pub fn place(self) -> usize
+        ensures { λ r. ⌜ r ≡ place self ⌝ }
+    {
+        match self {
+            Refusal::ShortTable => 0,
+            Refusal::BadLetter(i) => i,
+        }
+    }
 }
 
 // What a step says: whether a final is in the set that it moved to.

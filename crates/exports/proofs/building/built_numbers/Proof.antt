@@ -20,23 +20,11 @@ number-requires c κs = search needs
 place-requires : tie.Need-place-requires
 place-requires c κs = search needs
 
-refused-requires : tie.Need-refused-requires
-refused-requires c κs = search needs
-
-enum-told : tie.Need-enum-told
-enum-told c = search needs
-
-refused-requires-2 : tie.Need-refused-requires-2
-refused-requires-2 c κs = search needs
-
 returns : tie.Need-returns
 returns c = by-case builtOf (c .before .answer .given .1) refl
 
 returns-2 : tie.Need-returns-2
-returns-2 c = by-case builtOf (c .before .before .before .before .answer2 .given .1) (by-numbers (λ (n p : ℕ). builtNumbers (tables.refused n p)) (c .refused .ensures) (c .before .before .number .ensures) (c .before .place .ensures))
-
-returns-3 : tie.Need-returns-3
-returns-3 c = by-case builtOf (c .before .enum-told .given .1) (c .refused2 .ensures)
+returns-2 c = by-case builtOf (c .before .before .before .answer2 .given .1) (by-numbers (λ (n p : ℕ). builtNumbers (tables.refused n p)) refl (c .before .number .ensures) (c .place .ensures))
 
 pub built-numbers-spec : {M : Type 1} → statement M
 built-numbers-spec =
@@ -46,9 +34,5 @@ built-numbers-spec =
     enum-known-answer-2
     number-requires
     place-requires
-    refused-requires
-    enum-told
-    refused-requires-2
     returns
-    returns-2
-    returns-3)
+    returns-2)

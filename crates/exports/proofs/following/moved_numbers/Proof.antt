@@ -1,7 +1,9 @@
 -- `exports::following::moved_numbers` meets its contract: what is given are the numbers of the case that the answer is. Assumes nothing.
-use mathlib.Core.Path.{refl, ap, _∙_}
-use Rattle.walkers.specs.declared.FollowAnswer.the-variants.{Refused}
-use Rattle.exports.proofs.Given.{by-case, followOf}
+use mathlib.Core.Path.{refl}
+use Prim.Native.Nat.{ℕ}
+use Rattle.walkers.specs.Steps as walkers
+use Rattle.exports.specs.Numbers.{movedNumbers}
+use Rattle.exports.proofs.Given.{by-case, by-numbers, followOf}
 use borrow.Author.Needs.{needs}
 use Rattle.exports.proofs.following.moved_numbers.Statement.{statement}
 use Rattle.exports.proofs.following.moved_numbers.Tie as tie
@@ -9,36 +11,32 @@ use Rattle.exports.proofs.following.moved_numbers.Tie as tie
 enum-known-answer : tie.Need-enum-known-answer
 enum-known-answer c = search needs
 
-cast-t6 : tie.Need-cast-t6
-cast-t6 c = search needs
+cast-t5 : tie.Need-cast-t5
+cast-t5 c = search needs
 
 enum-known-answer-2 : tie.Need-enum-known-answer-2
 enum-known-answer-2 c = search needs
 
-enum-told : tie.Need-enum-told
-enum-told c = search needs
+number-requires : tie.Need-number-requires
+number-requires c κs = search needs
 
-enum-known-x : tie.Need-enum-known-x
-enum-known-x c = search needs
+place-requires : tie.Need-place-requires
+place-requires c κs = search needs
 
 returns : tie.Need-returns
 returns c = by-case followOf (c .before .answer .given .1) refl
 
 returns-2 : tie.Need-returns-2
-returns-2 c = by-case followOf (c .before .before .before .answer2 .given .1 ∙ ap Refused (c .enum-told .given .1)) refl
-
-returns-3 : tie.Need-returns-3
-returns-3 c = by-case followOf (c .before .before .before .before .answer2 .given .1 ∙ ap Refused (c .before .x .given .1)) refl
+returns-2 c = by-case followOf (c .before .before .before .answer2 .given .1) (by-numbers (λ (n p : ℕ). movedNumbers (walkers.refusal n p)) refl (c .before .number .ensures) (c .place .ensures))
 
 pub moved-numbers-spec : {M : Type 1} → statement M
 moved-numbers-spec =
     tie.close
     (tie.spec
     enum-known-answer
-    cast-t6
+    cast-t5
     enum-known-answer-2
-    enum-told
-    enum-known-x
+    number-requires
+    place-requires
     returns
-    returns-2
-    returns-3)
+    returns-2)

@@ -26,27 +26,6 @@ number-requires c κs = search needs
 place-requires : tie.Need-place-requires
 place-requires c κs = search needs
 
-refused-requires : tie.Need-refused-requires
-refused-requires c κs = search needs
-
-enum-known-answer-3 : tie.Need-enum-known-answer-3
-enum-known-answer-3 c = search needs
-
-number-requires-2 : tie.Need-number-requires-2
-number-requires-2 c κs = search needs
-
-place-requires-2 : tie.Need-place-requires-2
-place-requires-2 c κs = search needs
-
-refused-requires-2 : tie.Need-refused-requires-2
-refused-requires-2 c κs = search needs
-
-enum-told : tie.Need-enum-told
-enum-told c = search needs
-
-refused-requires-3 : tie.Need-refused-requires-3
-refused-requires-3 c κs = search needs
-
 returns : tie.Need-returns
 returns c = λ run. by-case (searchedOf run) (answered-as (c .before .before .before .before .answer .given .1) (c .before .searched .given .1)) refl
 
@@ -54,13 +33,7 @@ returns-2 : tie.Need-returns-2
 returns-2 c = λ run. by-case (searchedOf run) (answered-as (c .before .before .before .before .answer .given .1) (c .before .searched2 .given .1)) refl
 
 returns-3 : tie.Need-returns-3
-returns-3 c = λ run. by-case (searchedOf run) (c .before .before .before .before .answer2 .given .1) (by-numbers (λ (n p : ℕ). searchedNumbers (search.refused n p)) (c .refused .ensures) (c .before .before .number .ensures) (c .before .place .ensures))
-
-returns-4 : tie.Need-returns-4
-returns-4 c = λ run. by-case (searchedOf run) (c .before .before .before .before .answer3 .given .1) (by-numbers (λ (n p : ℕ). searchedNumbers (search.refused n p)) (c .refused2 .ensures) (c .before .before .number2 .ensures) (c .before .place2 .ensures))
-
-returns-5 : tie.Need-returns-5
-returns-5 c = λ run. by-case (searchedOf run) (c .before .enum-told .given .1) (c .refused3 .ensures)
+returns-3 c = λ run. by-case (searchedOf run) (c .before .before .before .answer2 .given .1) (by-numbers (λ (n p : ℕ). searchedNumbers (search.refused n p)) refl (c .before .number .ensures) (c .place .ensures))
 
 pub searched-numbers-spec : {M : Type 1} → statement M
 searched-numbers-spec =
@@ -72,15 +45,6 @@ searched-numbers-spec =
     enum-known-answer-2
     number-requires
     place-requires
-    refused-requires
-    enum-known-answer-3
-    number-requires-2
-    place-requires-2
-    refused-requires-2
-    enum-told
-    refused-requires-3
     returns
     returns-2
-    returns-3
-    returns-4
-    returns-5)
+    returns-3)

@@ -1,6 +1,6 @@
 -- `put_answer` writes the line of what a search came to, by its cases. Assumes nothing.
 use native.Mathlib.Omega.{arith}
-use Rattle.lines.proofs.Cases.{found-fits, none-fits, refused-fits, found-says, none-says, rule-says, model-says, short-says}
+use Rattle.lines.proofs.Cases.{found-fits, none-fits, refused-fits, found-says, none-says, refused-says}
 use borrow.Author.Needs.{needs}
 use Rattle.lines.proofs.answers.put_answer.Statement.{statement}
 use Rattle.lines.proofs.answers.put_answer.Tie as tie
@@ -38,28 +38,6 @@ put-refused-requires c κs =
     let s = c .before .before .before .before .before .before .before .before in
     refused-fits (s .args .answer) (s .args .run .now) (s .args .out .now) (s .pre) _ _ (omega arith) (omega arith)
 
-enum-known-answer-3 : tie.Need-enum-known-answer-3
-enum-known-answer-3 c = search needs
-
-number-requires-2 : tie.Need-number-requires-2
-number-requires-2 c κs = search needs
-
-place-requires-2 : tie.Need-place-requires-2
-place-requires-2 c κs = search needs
-
-put-refused-requires-2 : tie.Need-put-refused-requires-2
-put-refused-requires-2 c κs =
-    let s = c .before .before .before .before .before .before .before .before in
-    refused-fits (s .args .answer) (s .args .run .now) (s .args .out .now) (s .pre) _ _ (omega arith) (omega arith)
-
-enum-told : tie.Need-enum-told
-enum-told c = search needs
-
-put-refused-requires-3 : tie.Need-put-refused-requires-3
-put-refused-requires-3 c κs =
-    let s = c .before .before .before .before .before in
-    refused-fits (s .args .answer) (s .args .run .now) (s .args .out .now) (s .pre) 21 0 (omega arith) (omega arith)
-
 same-length : tie.Need-same-length
 same-length c = search needs
 
@@ -82,23 +60,7 @@ same-length-3 c = search needs
 returns-3 : tie.Need-returns-3
 returns-3 c =
     let s = c .before .before .before .before .before .before .before .before .before .before .before in
-    rule-says (s .args .answer) (s .args .run .now) _ (c .before .before .before .before .before .before .before .answer2 .given .1) (c .before .before .before .before .number .ensures) (c .before .before .before .place .ensures) (c .before .before .put-refused .ensures)
-
-same-length-4 : tie.Need-same-length-4
-same-length-4 c = search needs
-
-returns-4 : tie.Need-returns-4
-returns-4 c =
-    let s = c .before .before .before .before .before .before .before .before .before .before .before in
-    model-says (s .args .answer) (s .args .run .now) _ (c .before .before .before .before .before .before .before .answer3 .given .1) (c .before .before .before .before .number2 .ensures) (c .before .before .before .place2 .ensures) (c .before .before .put-refused2 .ensures)
-
-same-length-5 : tie.Need-same-length-5
-same-length-5 c = search needs
-
-returns-5 : tie.Need-returns-5
-returns-5 c =
-    let s = c .before .before .before .before .before .before .before .before in
-    short-says (s .args .answer) (s .args .run .now) (c .before .before .before .before .enum-told .given .1) (c .before .before .put-refused3 .ensures)
+    refused-says (s .args .answer) (s .args .run .now) _ (c .before .before .before .before .before .before .before .answer2 .given .1) (c .before .before .before .before .number .ensures) (c .before .before .before .place .ensures) (c .before .before .put-refused .ensures)
 
 pub put-answer-spec : {M : Type 1} → statement M
 put-answer-spec =
@@ -113,19 +75,9 @@ put-answer-spec =
     number-requires
     place-requires
     put-refused-requires
-    enum-known-answer-3
-    number-requires-2
-    place-requires-2
-    put-refused-requires-2
-    enum-told
-    put-refused-requires-3
     same-length
     returns
     same-length-2
     returns-2
     same-length-3
-    returns-3
-    same-length-4
-    returns-4
-    same-length-5
-    returns-5)
+    returns-3)

@@ -1,10 +1,10 @@
-// The numbers of the refusals that are neither a rule's nor a model's.
+// The numbers of the refusals that are neither a rule's nor a model's: several calls share them.
 
 // A lent slice is too short.
 pub const SHORT_SLICE: u64 = 21;
 
 // What stands in a letter's place is none.
-pub const NO_LETTER: u64 = 22;
+pub const BAD_LETTER: u64 = 22;
 
 // There are more letters than the plain judge takes.
 pub const TOO_MANY_LETTERS: u64 = 23;

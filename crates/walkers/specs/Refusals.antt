@@ -1,0 +1,13 @@
+-- The number and the place of each refusal of a walker. Assumes nothing: these are definitions.
+use Prim.Native.Nat.{ℕ}
+use Rattle.rules.specs.Numbers.{shortSlice, badLetter}
+use Rattle.walkers.specs.declared.Refusal.{Refusal}
+use Rattle.walkers.specs.declared.Refusal.the-variants.{ShortTable, BadLetter}
+
+abbrev pub number : Refusal → ℕ
+number ShortTable = shortSlice
+number (BadLetter i) = badLetter
+
+abbrev pub place : Refusal → ℕ
+place ShortTable = 0
+place (BadLetter i) = i
