@@ -1,3 +1,4 @@
 pub mod Word
 pub mod Bytes
 pub mod Says
+pub mod Sets

@@ -4,6 +4,10 @@ use mathlib.Core.Bool.{Bool}
 use mathlib.Core.List.{List, [], _∷_, map}
 use lib.Dec.{T}
 
+-- a model has at most this many states
+abbrev pub modelStates : ℕ
+modelStates = 64
+
 -- its states are the numbers below `states`; each has a letter, may be initial, and has successors
 pub record Model : Type 0 where
   pub states : ℕ

@@ -1,2 +1,4 @@
 pub mod Gathering
 pub mod Walking
+pub mod Adding
+pub mod Rowing

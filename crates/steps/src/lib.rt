@@ -8,6 +8,8 @@ ghost use Rattle.steps.specs.Moves.{rowOf, advanced};
 use tables::STATES;
 use tables::step::in_label;
 
+pub mod rows; // a table's rows by letter
+
 // The states that p reaches under the letter.
 fn row(table: &[u64], p: usize, letter: u8) -> u64
     requires { ⌜ (tableEntries ≤ length (now table)) × (p < tableStates) × (letter < letterCount) ⌝ }

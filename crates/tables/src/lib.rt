@@ -12,7 +12,7 @@ use rules::RuleAnswer;
 use rules::numbers::SHORT_SLICE;
 
 pub mod step; // whether a letter leads from one state to another
-mod cells; // the label at a place of the table
+pub mod cells; // the label from one state to another
 mod clear; // no label
 mod link; // `;` and the repetitions
 mod overlap; // `:`

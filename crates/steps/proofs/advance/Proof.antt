@@ -1,21 +1,26 @@
 -- `advance` gathers the rows of the members, the lowest first; each turn has one member less. Assumes nothing.
-use Prim.Native.Nat.{ℕ, _+_}
-use mathlib.Core.Path.{_≡_, refl, sym, ap, _∙_}
+use Prim.Native.Nat.{_^_, _<_}
+use mathlib.Core.Path.{sym, subst}
+use lib.Bits.{or-lt}
+use lib.Pow.{pow-pos}
+use lib.Dec.{T}
 use native.Mathlib.Omega.{arith}
 use Rattle.bits.specs.Word.{bit, many}
-use Rattle.bits.proofs.Laws.{many-remove}
-use Rattle.steps.proofs.Gathering.{Gathers, gathers-none, gathers-turn, gathers-all}
+use Rattle.bits.specs.Sets.{Members, Over}
+use Rattle.bits.proofs.Resting.{Done, Rest, rest-all, turn-rest, turn-less, uniting-none, uniting-turn, uniting-end}
+use Rattle.tables.specs.Table.{tableStates, cell}
+use Rattle.steps.proofs.Gathering.{row-members, gathered}
 use Rattle.steps.proofs.advance.Statement.{statement}
 use Rattle.steps.proofs.advance.Tie as tie
 
 abbrev Inv-loop : tie.InvT-loop
-Inv-loop table set letter reached₀ rest₀ reached rest = Gathers table set letter rest reached
+Inv-loop table set letter reached₀ rest₀ reached rest = (reached < 2 ^ 64) × Rest set rest × Members reached (λ q. Over (Done set rest) (λ p. (q < tableStates) × T (bit (cell table p q) letter)))
 
 abbrev μ-loop : tie.MeasureT-loop
 μ-loop table set letter reached₀ rest₀ reached rest = many 64 (bit rest)
 
 loop-holds : tie.Need-loop-holds Inv-loop μ-loop
-loop-holds c = gathers-none (c .before .args .table .now) (c .before .args .set) (c .before .args .letter)
+loop-holds c = (pow-pos 64, rest-all (c .before .fits .set .fits), uniting-none _ _)
 
 lowest-requires : tie.Need-lowest-requires Inv-loop μ-loop
 lowest-requires c κs = omega arith
@@ -26,24 +31,23 @@ row-requires c κs = omega arith
 without-requires : tie.Need-without-requires Inv-loop μ-loop
 without-requires c κs = c .before .lowest .ensures .inside
 
--- one member less
-less : (c : tie.After-without Inv-loop μ-loop) → many 64 (bit (c .before .before .before .before .loop .rest)) ≡ many 64 (bit (c .without .result)) + 1
-less c =
-    let l = c .before .before .lowest in
-    many-remove 64 (c .before .before .before .before .loop .rest) (l .result) (l .ensures .inside) (l .ensures .least .here)
-    ∙ ap (λ (x : ℕ). many 64 (bit x) + 1) (sym (c .without .ensures))
-
 loop-less : tie.Need-loop-less Inv-loop μ-loop
-loop-less c = omega (arith, less c)
+loop-less c = turn-less (c .before .before .before .before .loop .inv .1) (c .before .before .lowest .ensures) (c .without .ensures)
 
 loop-again : tie.Need-loop-again Inv-loop μ-loop
 loop-again c =
-    let l = c .before .before .lowest in
-    gathers-turn _ _ _ _ _ (l .result) (c .before .row .result) _ _ (c .before .before .before .before .loop .inv) (l .ensures .inside) (l .ensures .least .here)
-    (c .before .row .ensures) (c .without .ensures) refl
+    let i = c .before .before .before .before .loop .inv in
+    let l = c .before .before .lowest .ensures in
+    let a = c .before .before .before .before .before .before .args in (
+      or-lt 64 _ _ (i .0) (omega (arith, c .before .row .ok)),
+      turn-rest (i .1) l (c .without .ensures),
+      uniting-turn (i .1) l (c .without .ensures) (i .2) (subst (λ r. Members r (λ q. (q < tableStates) × T (bit (cell (a .table .now) (c .before .before .lowest .result) q) (a .letter)))) (sym (c .before .row .ensures)) (row-members (a .table .now) (c .before .before .lowest .result) (a .letter))),
+    )
 
 returns : tie.Need-returns Inv-loop μ-loop
-returns c = gathers-all _ _ _ _ _ (c .before .loop .inv) (omega arith)
+returns c =
+    let a = c .before .before .before in
+    gathered (a .args .table .now) (a .args .set) (a .args .letter) _ (a .fits .set .fits) (c .before .loop .inv .0) (uniting-end (omega arith) (c .before .loop .inv .2))
 
 pub advance-spec : {M : Type 1} → statement M
 advance-spec =

@@ -1,0 +1,62 @@
+// A table's rows by letter: at 64·x + p the set of states that letter x leads to from p. A step of a set is then one row for each member.
+ghost use mathlib.Core.Path.{_≡_};
+ghost use Prim.Native.Nat.{ℕ, _+_, _*_, _<_, _≤_};
+ghost use lib.Dec.{T};
+ghost use lib.ListN.{length, getD};
+ghost use Rattle.bits.specs.Word.{bit};
+ghost use Rattle.bits.specs.Sets.{In, Members, Over};
+ghost use Rattle.tables.specs.Table.{tableStates, tableEntries, tableOf};
+ghost use Rattle.steps.specs.Rows.{Rowed};
+ghost use Rattle.steps.specs.inner.Puts.{Adds, RowPuts};
+use tables::STATES;
+use tables::cells::get;
+
+// The union of the words that stand at `base` + k for the members k of the set.
+pub fn union(words: &[u64], base: usize, set: u64) -> u64
+    requires { ⌜ ((k : ℕ) → T (bit set k) → base + k < length (now words)) ⌝ }
+    ensures { λ r. ⌜ Members r (λ q. Over (In set) (λ k. T (bit (getD (now (words .entry)) (base + k) 0) q))) ⌝ }
+{
+    let mut out: u64 = 0;
+    let mut rest = set;
+    while rest != 0 {
+        let k = bits::lowest(rest);
+        rest = bits::without(rest, k);
+        out |= words[base + k];
+    }
+    out
+}
+
+// Adds q to the rows of p for the letters of the label.
+fn scatter(rows: &mut [u64], p: usize, q: usize, label: u64)
+    requires { ⌜ (tableEntries ≤ length (now rows)) × (p < tableStates) × (q < tableStates) ⌝ }
+    ensures { λ _. ⌜ Adds (now (rows .entry)) (now (rows .exit)) (λ i k. Over (In label) (λ x. (i ≡ tableStates * x + p) × (k ≡ q))) ⌝ }
+{
+    let mine = bits::with(0, q);
+    let mut rest = label;
+    while rest != 0 {
+        let x = bits::lowest(rest);
+        rest = bits::without(rest, x);
+        rows[STATES * x + p] |= mine;
+    }
+}
+
+// The rows of p.
+fn rows_from(table: &[u64], rows: &mut [u64], weight: usize, used: u64, p: usize)
+    requires { ⌜ (tableEntries ≤ length (now table)) × (tableEntries ≤ length (now rows)) × (weight ≤ tableStates) × (p < tableStates) ⌝ }
+    ensures { λ _. ⌜ Adds (now (rows .entry)) (now (rows .exit)) (RowPuts (now (table .entry)) weight used p) ⌝ }
+{
+    for q in 0..weight {
+        let label = get(table, p, q) & used;
+        scatter(rows, p, q, label);
+    }
+}
+
+// The rows of every state for the letters in `used`, on rows that are all 0.
+pub fn fill_rows(table: &[u64], rows: &mut [u64], weight: usize, used: u64)
+    requires { ⌜ (tableEntries ≤ length (now table)) × (tableEntries ≤ length (now rows)) × (weight ≤ tableStates) × ((i : ℕ) → getD (now rows) i 0 ≡ 0) ⌝ }
+    ensures { λ _. ⌜ (length (now (rows .exit)) ≡ length (now (rows .entry))) × Rowed (tableOf (now (table .entry)) weight 0) (In used) (now (rows .exit)) ⌝ }
+{
+    for p in 0..weight {
+        rows_from(table, rows, weight, used, p);
+    }
+}
