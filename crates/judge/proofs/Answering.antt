@@ -15,7 +15,7 @@ use Rattle.rules.specs.Answer as rules
 use Rattle.rules.specs.Answer.{answer, AcceptedAs, knownOf}
 use Rattle.rules.proofs.Accepting.{accepted-rule, accepted-stands}
 use Rattle.judge.specs.Parts.{letterLimit, Few}
-use Rattle.judge.specs.Judging.{AcceptsAs}
+use Rattle.judge.specs.inner.Judging.{AcceptsAs}
 use Rattle.judge.specs.Verdict.{judged, refused, LettersTo, StrayAt, Right, rule-refused, too-many, no-letter, decided}
 
 module _ (s w : List ℕ) (a : RuleAnswer) (read : rules.told a ≡ answer s) where

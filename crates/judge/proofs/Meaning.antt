@@ -14,7 +14,7 @@ use Rattle.rules.specs.declared.kinds.Repeat.the-variants.{Star, Plus}
 use Rattle.rules.specs.Definition1.{Formula, Rule, letter, empty, two, again}
 use Rattle.rules.specs.Definition2.{holds, OneLetter, Parts, Overlaps, Begins, Repeats, none, more, Sat}
 use Rattle.judge.specs.Parts.{Few, part, yes, Judged, Filled}
-use Rattle.judge.specs.Cut.{LetterAt, ThenAt, OverlapAt, BeginsAt, WithinAt, PairAt, StepAt, StarAt, PlusOf}
+use Rattle.judge.specs.inner.Cut.{LetterAt, ThenAt, OverlapAt, BeginsAt, WithinAt, PairAt, StepAt, StarAt, PlusOf}
 use Rattle.bits.proofs.Truths.{T-true}
 use Rattle.bits.proofs.Sayings.{says-map, says-in}
 

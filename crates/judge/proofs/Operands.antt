@@ -14,8 +14,8 @@ use Rattle.rules.specs.Kinds.{kindOf}
 use Rattle.rules.specs.Places.{RuleAt, RuleEnds}
 use Rattle.rules.proofs.Unique.{rule-of}
 use Rattle.judge.specs.Parts.{Few, Judged, Filled}
-use Rattle.judge.specs.Cut.{PairAt, StarAt, PlusOf}
-use Rattle.judge.specs.Judging.{LetterParts, JudgedAt, RepeatedAt}
+use Rattle.judge.specs.inner.Cut.{PairAt, StarAt, PlusOf}
+use Rattle.judge.specs.inner.Judging.{LetterParts, JudgedAt, RepeatedAt}
 use Rattle.judge.proofs.Meaning.{judged-letter, judged-empty, judged-two, judged-star, judged-plus}
 
 module _ (s : List ℕ) (at : ℕ) (w : List ℕ) (few : Few w) where

@@ -14,7 +14,7 @@ use Rattle.bits.specs.Says.{Says}
 use Rattle.bits.specs.Word.{bit, insert}
 use Rattle.bits.proofs.Laws.{bit-zero, bit-insert}
 use Rattle.judge.specs.Parts.{side, yes, RowOf, Filled}
-use Rattle.judge.specs.Cut.{StarAt}
+use Rattle.judge.specs.inner.Cut.{StarAt}
 use Rattle.bits.proofs.Sayings.{said-yes, said-no, says-map}
 
 -- the row's bits below n say P, and it has no others

@@ -1,5 +1,4 @@
 pub mod Parts
-pub mod Cut
-pub mod Judging
 pub mod Refusals
 pub mod Verdict
+pub mod inner

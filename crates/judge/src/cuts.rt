@@ -3,7 +3,7 @@ ghost use mathlib.Core.Path.{_≡_};
 ghost use Prim.Native.Nat.{_<_};
 ghost use Rattle.bits.specs.Says.{Says};
 ghost use Rattle.judge.specs.Parts.{side, yes};
-ghost use Rattle.judge.specs.Cut.{ThenAt, OverlapAt, BeginsAt, WithinAt, PairAt, StarAt, CellAt};
+ghost use Rattle.judge.specs.inner.Cut.{ThenAt, OverlapAt, BeginsAt, WithinAt, PairAt, StarAt, CellAt};
 use rules::kinds::Pair;
 
 // The most letters that the judge takes.

@@ -2,7 +2,7 @@
 // take exponential time.
 ghost use Rattle.rules.specs.Places.{GoodRule};
 ghost use Rattle.judge.specs.Parts.{Few};
-ghost use Rattle.judge.specs.Judging.{JudgedAt, RepeatedAt, AcceptsAs};
+ghost use Rattle.judge.specs.inner.Judging.{JudgedAt, RepeatedAt, AcceptsAs};
 use crate::cuts::Answers;
 use crate::cuts::SIDE;
 use crate::cuts::accepted;

@@ -21,10 +21,10 @@ use Rattle.tables.specs.declared.shape.Shape.{Shape}
 use Rattle.tables.specs.declared.fill.Place.{Place}
 use Rattle.tables.specs.declared.fill.Place.the-variants.{Nowhere, From}
 use Rattle.tables.specs.Table.{tableEntries}
-use Rattle.tables.specs.Cells.{Put, Clean}
-use Rattle.tables.specs.Block.{Built, Beside}
-use Rattle.tables.specs.Shapes.{Fits, ShapeOf, ShapedAs}
-use Rattle.tables.specs.Building.{Ready, BuiltAt, Room, Joins, Repeats, Placed, PlacedAt, nowhere, from, operandsFrom}
+use Rattle.tables.specs.inner.Cells.{Put, Clean}
+use Rattle.tables.specs.inner.Block.{Built, Beside}
+use Rattle.tables.specs.inner.Shapes.{Fits, ShapeOf, ShapedAs}
+use Rattle.tables.specs.inner.Building.{Ready, BuiltAt, Room, Joins, Repeats, Placed, PlacedAt, nowhere, from, operandsFrom}
 use Rattle.tables.proofs.Shaping.{pair-weights}
 use Rattle.tables.proofs.Places.{beside, built-at, clean-on}
 use Rattle.tables.proofs.Singles.{empty-built, letter-built}

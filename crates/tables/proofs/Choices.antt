@@ -11,9 +11,9 @@ use Rattle.rules.specs.Weight.{weightOf}
 use Rattle.tables.specs.declared.shape.Shape.{Shape}
 use Rattle.tables.specs.Table.{cell}
 use Rattle.tables.specs.Build.{auto, Up, EitherStep}
-use Rattle.tables.specs.Cells.{In, Put, Clean, chosen}
-use Rattle.tables.specs.Block.{Built, Beside}
-use Rattle.tables.specs.Building.{Room, Joins}
+use Rattle.tables.specs.inner.Cells.{In, Put, Clean, chosen}
+use Rattle.tables.specs.inner.Block.{Built, Beside}
+use Rattle.tables.specs.inner.Building.{Room, Joins}
 use Rattle.tables.proofs.Labels.{Has, chosen-left, chosen-right}
 use Rattle.tables.proofs.Eithers.{either-a, either-b}
 use Rattle.tables.proofs.Language.{good, size-weight}

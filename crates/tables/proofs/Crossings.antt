@@ -10,10 +10,10 @@ use Rattle.rules.specs.Weight.{weightOf}
 use Rattle.tables.specs.declared.shape.Shape.{Shape}
 use Rattle.tables.specs.Table.{cell}
 use Rattle.tables.specs.Build.{auto}
-use Rattle.tables.specs.Cells.{In, Put, Clean, linked, overlapped}
-use Rattle.tables.specs.Block.{FinalsAt, Block, Built, Beside}
-use Rattle.tables.specs.Sets.{Raised}
-use Rattle.tables.specs.Building.{Room, Joins}
+use Rattle.tables.specs.inner.Cells.{In, Put, Clean, linked, overlapped}
+use Rattle.tables.specs.inner.Block.{FinalsAt, Block, Built, Beside}
+use Rattle.tables.specs.inner.Sets.{Raised}
+use Rattle.tables.specs.inner.Building.{Room, Joins}
 use Rattle.tables.proofs.Labels.{Has, has-linked, overlapped-out, overlapped-in}
 use Rattle.tables.proofs.Thens.{then-aa, then-ab, then-bb}
 use Rattle.tables.proofs.Overlaps.{overlap-aa, overlap-ab, overlap-bb}

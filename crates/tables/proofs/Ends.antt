@@ -14,7 +14,7 @@ use Rattle.rules.specs.declared.kinds.Repeat.the-variants.{Star, Plus}
 use Rattle.rules.specs.Definition1.{Rule, Formula, letter, empty, two, again}
 use Rattle.rules.specs.Weight.{weightOf}
 use Rattle.tables.specs.Build.{auto, UpF, ThenFinal, EitherFinal, BothFinal}
-use Rattle.tables.specs.Block.{FinalsAt, withinRule}
+use Rattle.tables.specs.inner.Block.{FinalsAt, withinRule}
 use Rattle.bits.proofs.Truths.{and-T, or-T, true-T, false-no}
 use Rattle.tables.proofs.Labels.{Has, has-none, has-or}
 use Rattle.tables.proofs.Boths.{pair-fst, pair-snd, pair-lt}

@@ -12,8 +12,8 @@ use Rattle.rules.specs.declared.kinds.Pair.the-variants.{Both}
 use Rattle.rules.specs.Definition1.{Rule, Formula, yea, letter, empty, two}
 use Rattle.rules.specs.Weight.{weightOf}
 use Rattle.tables.specs.Build.{auto, UpF}
-use Rattle.tables.specs.Block.{FinalsAt, anyRule}
-use Rattle.tables.specs.Sets.{Raised, pairFinal}
+use Rattle.tables.specs.inner.Block.{FinalsAt, anyRule}
+use Rattle.tables.specs.inner.Sets.{Raised, pairFinal}
 use Rattle.bits.proofs.Truths.{false-no}
 use Rattle.rules.proofs.Weighing.{weight-pos}
 use Rattle.tables.proofs.Places.{final-at}

@@ -12,7 +12,7 @@ use borrow.Author.Tests.{lt-ltb, le-ltb}
 use Rattle.bits.specs.Word.{bit}
 use Rattle.bits.proofs.Laws.{bit-or, bit-and, bit-zero}
 use Rattle.tables.specs.Table.{cell}
-use Rattle.tables.specs.Cells.{linked, overlapped, chosen, paired}
+use Rattle.tables.specs.inner.Cells.{linked, overlapped, chosen, paired}
 use Rattle.bits.proofs.Truths.{and-T, or-T}
 
 -- the letter x is in the word w

@@ -7,7 +7,7 @@ use native.Mathlib.Omega.{arith}
 use lib.Bits.{bitOr, or-self}
 use Rattle.bits.specs.Word.{bit}
 use Rattle.tables.specs.Table.{cell}
-use Rattle.tables.specs.Cells.{Put, In, linked}
+use Rattle.tables.specs.inner.Cells.{Put, In, linked}
 use Rattle.tables.proofs.Puts.{put-down, dec-in}
 
 pub linked-final : (t : List ℕ) (src f p q : ℕ) → bit f p ≡ true → linked t src f p q ≡ bitOr (cell t p q) (cell t src q)

@@ -7,7 +7,7 @@ use native.Mathlib.Omega.{arith}
 use lib.Bits.{bitOr, bitAnd}
 use Rattle.bits.specs.Word.{bit}
 use Rattle.tables.specs.Table.{cell}
-use Rattle.tables.specs.Cells.{Put, overlapped, overlappedBy, chosen}
+use Rattle.tables.specs.inner.Cells.{Put, overlapped, overlappedBy, chosen}
 use Rattle.tables.proofs.Puts.{put-over, put-down, put-right, put-as, put-keep}
 use borrow.Author.Tests.{lt-ltb, le-ltb}
 

@@ -7,8 +7,8 @@ use native.Mathlib.Nat.{div-lt-iff-lt-mul, mod-lt}
 use Rattle.rules.specs.Definition1.{Rule}
 use Rattle.rules.specs.Weight.{weightOf}
 use Rattle.tables.specs.Table.{cell}
-use Rattle.tables.specs.Cells.{Put, moved}
-use Rattle.tables.specs.Block.{Block}
+use Rattle.tables.specs.inner.Cells.{Put, moved}
+use Rattle.tables.specs.inner.Block.{Block}
 use Rattle.tables.proofs.Places.{by-cell}
 
 -- a pair's parts are states of the operands

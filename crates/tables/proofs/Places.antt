@@ -11,8 +11,8 @@ use Rattle.rules.specs.Definition1.{Rule}
 use Rattle.rules.specs.Weight.{weightOf}
 use Rattle.tables.specs.Table.{cell}
 use Rattle.tables.specs.Build.{auto, UpF}
-use Rattle.tables.specs.Cells.{In, Clean}
-use Rattle.tables.specs.Block.{Block, FinalsAt, Built, Beside}
+use Rattle.tables.specs.inner.Cells.{In, Clean}
+use Rattle.tables.specs.inner.Block.{Block, FinalsAt, Built, Beside}
 use Rattle.tables.proofs.Labels.{Has, has-none}
 
 -- a state of two operands is one of the first's, or one of the second's moved up

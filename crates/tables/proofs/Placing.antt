@@ -12,8 +12,8 @@ use Rattle.rules.proofs.Weighing.{weight-pos}
 use Rattle.tables.specs.declared.shape.Shape.{Shape}
 use Rattle.tables.specs.declared.fill.Place.{Place}
 use Rattle.tables.specs.declared.fill.Place.the-variants.{Nowhere, From}
-use Rattle.tables.specs.Shapes.{ShapedAs}
-use Rattle.tables.specs.Building.{Placed, PlacedAt}
+use Rattle.tables.specs.inner.Shapes.{ShapedAs}
+use Rattle.tables.specs.inner.Building.{Placed, PlacedAt}
 use Rattle.tables.proofs.Products.{none-placed, both-placed}
 
 -- a place that suits operands of any weight

@@ -13,9 +13,9 @@ use Rattle.tables.specs.declared.shape.Shape.{Shape}
 use Rattle.tables.specs.declared.fill.Place.the-variants.{Nowhere, From}
 use Rattle.tables.specs.Table.{cell}
 use Rattle.tables.specs.Build.{auto, BothStep}
-use Rattle.tables.specs.Cells.{Put, Clean, moved, paired}
-use Rattle.tables.specs.Block.{Block, Built}
-use Rattle.tables.specs.Building.{Room, Joins, Placed, nowhere, from}
+use Rattle.tables.specs.inner.Cells.{Put, Clean, moved, paired}
+use Rattle.tables.specs.inner.Block.{Block, Built}
+use Rattle.tables.specs.inner.Building.{Room, Joins, Placed, nowhere, from}
 use Rattle.tables.proofs.Labels.{Has, has-paired}
 use Rattle.tables.proofs.Boths.{both-label}
 use Rattle.tables.proofs.Language.{good, size-weight}

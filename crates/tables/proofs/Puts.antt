@@ -8,7 +8,7 @@ use native.Mathlib.Decide.{decLe, decLt}
 use lib.ListN.{getD, length, set}
 use lib.Seq.{getD-set-same, getD-set-other}
 use Rattle.tables.specs.Table.{cell}
-use Rattle.tables.specs.Cells.{Put, In}
+use Rattle.tables.specs.inner.Cells.{Put, In}
 
 dec-in′ : (a b c d p q : ℕ) → Dec (a ≤ p) → Dec (p < b) → Dec (c ≤ q) → Dec (q < d) → Dec (In a b c d p q)
 dec-in′ a b c d p q (yes x) (yes y) (yes z) (yes w) = yes (record { top = x; bottom = y; left = z; right = w })

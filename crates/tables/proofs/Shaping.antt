@@ -17,7 +17,7 @@ use Rattle.rules.specs.Weight.{weightOf, pairWeight, weightLimit}
 use Rattle.rules.proofs.Scan.{rule-ends}
 use Rattle.rules.proofs.Unique.{rule-of}
 use Rattle.tables.specs.declared.shape.Shape.{Shape}
-use Rattle.tables.specs.Shapes.{Fits, ShapeOf, ShapedAs}
+use Rattle.tables.specs.inner.Shapes.{Fits, ShapeOf, ShapedAs}
 use Rattle.rules.proofs.Weighing.{weight-pos}
 use Rattle.tables.proofs.FinalSets.{empty-set, letter-set}
 

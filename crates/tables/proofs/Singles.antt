@@ -12,8 +12,8 @@ use Rattle.rules.specs.Definition1.{Formula, yea, letter, empty}
 use Rattle.rules.specs.Definition2.{holds}
 use Rattle.tables.specs.Table.{cell}
 use Rattle.tables.specs.Build.{auto, LetterStep, the-label, letterA, PlusStep}
-use Rattle.tables.specs.Cells.{In, Put, Clean}
-use Rattle.tables.specs.Block.{Built, anyRule}
+use Rattle.tables.specs.inner.Cells.{In, Put, Clean}
+use Rattle.tables.specs.inner.Block.{Built, anyRule}
 use Rattle.bits.proofs.Truths.{true-T}
 use Rattle.tables.proofs.Labels.{Has}
 use Rattle.tables.proofs.Places.{by-cell, by-none}

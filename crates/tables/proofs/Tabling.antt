@@ -16,10 +16,10 @@ use Rattle.rules.specs.Answer.{answer, AcceptedAs, knownOf}
 use Rattle.rules.specs.Weight.{weightOf}
 use Rattle.rules.proofs.Accepting.{accepted-rule, accepted-stands}
 use Rattle.tables.specs.declared.shape.Shape.{Shape}
-use Rattle.tables.specs.Cells.{Put}
-use Rattle.tables.specs.Block.{Built}
-use Rattle.tables.specs.Shapes.{Fits, ShapedAs}
-use Rattle.tables.specs.Building.{Ready, BuiltAt}
+use Rattle.tables.specs.inner.Cells.{Put}
+use Rattle.tables.specs.inner.Block.{Built}
+use Rattle.tables.specs.inner.Shapes.{Fits, ShapedAs}
+use Rattle.tables.specs.inner.Building.{Ready, BuiltAt}
 use Rattle.tables.specs.Answer.{Right, refused, tabled, rule-refused, short-table, the-table, TableFor}
 use Rattle.tables.proofs.Wholes.{is-table}
 

@@ -11,10 +11,10 @@ use Rattle.rules.specs.Weight.{weightOf}
 use Rattle.tables.specs.declared.shape.Shape.{Shape}
 use Rattle.tables.specs.Table.{cell}
 use Rattle.tables.specs.Build.{auto, PlusStep}
-use Rattle.tables.specs.Cells.{In, Put, linked}
-use Rattle.tables.specs.Block.{FinalsAt, Built}
-use Rattle.tables.specs.Sets.{Raised}
-use Rattle.tables.specs.Building.{Repeats}
+use Rattle.tables.specs.inner.Cells.{In, Put, linked}
+use Rattle.tables.specs.inner.Block.{FinalsAt, Built}
+use Rattle.tables.specs.inner.Sets.{Raised}
+use Rattle.tables.specs.inner.Building.{Repeats}
 use Rattle.tables.proofs.Labels.{Has, has-linked}
 use Rattle.tables.proofs.FinalSets.{raise-finals}
 use Rattle.tables.proofs.Places.{by-cell, block-at, final-at}

@@ -9,8 +9,8 @@ use Rattle.rules.specs.Definition1.{Rule}
 use Rattle.rules.specs.Weight.{weightOf}
 use Rattle.tables.specs.Table.{cell}
 use Rattle.tables.specs.Build.{auto}
-use Rattle.tables.specs.Cells.{In, Clean}
-use Rattle.tables.specs.Block.{FinalsAt, Built}
+use Rattle.tables.specs.inner.Cells.{In, Clean}
+use Rattle.tables.specs.inner.Block.{FinalsAt, Built}
 use Rattle.tables.specs.IsTable.{IsTable}
 use Rattle.tables.proofs.Labels.{Has}
 use Rattle.tables.proofs.Serving.{step-inside}

@@ -14,11 +14,11 @@ use Rattle.rules.specs.Weight.{weightOf}
 use Rattle.rules.proofs.Weighing.{weight-pos}
 use Rattle.tables.specs.declared.shape.Shape.{Shape}
 use Rattle.tables.specs.Build.{auto}
-use Rattle.tables.specs.Cells.{Put, Clean, linked, moved, paired, chosen}
-use Rattle.tables.specs.Block.{FinalsAt, Block, Built, Beside, anyRule, withinRule}
-use Rattle.tables.specs.Sets.{Raised}
-use Rattle.tables.specs.Shapes.{ShapeOf}
-use Rattle.tables.specs.Building.{Room, Joins}
+use Rattle.tables.specs.inner.Cells.{Put, Clean, linked, moved, paired, chosen}
+use Rattle.tables.specs.inner.Block.{FinalsAt, Block, Built, Beside, anyRule, withinRule}
+use Rattle.tables.specs.inner.Sets.{Raised}
+use Rattle.tables.specs.inner.Shapes.{ShapeOf}
+use Rattle.tables.specs.inner.Building.{Room, Joins}
 use Rattle.tables.proofs.Language.{within-weight}
 use Rattle.tables.proofs.FinalSets.{raise-finals}
 use Rattle.tables.proofs.Places.{beside, built-at, clean-on, built-over}

@@ -3,11 +3,7 @@ pub mod Promise
 pub mod Auto
 pub mod Build
 pub mod IsTable
-pub mod Cells
-pub mod Block
-pub mod Sets
-pub mod Shapes
-pub mod Building
 pub mod Beyond
 pub mod Refusals
 pub mod Answer
+pub mod inner

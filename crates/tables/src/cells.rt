@@ -3,7 +3,7 @@ ghost use mathlib.Core.Path.{_≡_};
 ghost use Prim.Native.Nat.{_+_, _*_, _<_};
 ghost use lib.ListN.{length};
 ghost use Rattle.tables.specs.Table.{cell};
-ghost use Rattle.tables.specs.Cells.{Put};
+ghost use Rattle.tables.specs.inner.Cells.{Put};
 use crate::STATES;
 
 // The label from p to q.

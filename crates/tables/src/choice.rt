@@ -3,8 +3,8 @@ ghost use Prim.Native.Nat.{_+_, _<_, _≤_};
 ghost use lib.ListN.{length};
 ghost use Rattle.rules.specs.declared.kinds.Pair.the-variants.{Either};
 ghost use Rattle.tables.specs.Table.{tableEntries};
-ghost use Rattle.tables.specs.Cells.{Put, chosen};
-ghost use Rattle.tables.specs.Building.{Room, Joins};
+ghost use Rattle.tables.specs.inner.Cells.{Put, chosen};
+ghost use Rattle.tables.specs.inner.Building.{Room, Joins};
 use crate::link::unite_row;
 use crate::shape::Shape;
 

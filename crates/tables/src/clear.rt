@@ -2,7 +2,7 @@
 ghost use Prim.Native.Nat.{_+_, _<_, _≤_};
 ghost use lib.ListN.{length};
 ghost use Rattle.tables.specs.Table.{tableEntries};
-ghost use Rattle.tables.specs.Cells.{Put};
+ghost use Rattle.tables.specs.inner.Cells.{Put};
 use crate::cells::put;
 
 // Row p has no label in the columns lo to hi.

@@ -5,8 +5,8 @@ ghost use Rattle.bits.specs.Word.{word};
 ghost use Rattle.rules.specs.Definition1.{Rule, two};
 ghost use Rattle.rules.specs.declared.kinds.Pair.the-variants.{Then, Either, Within, Both};
 ghost use Rattle.rules.specs.Weight.{weightOf};
-ghost use Rattle.tables.specs.Block.{FinalsAt};
-ghost use Rattle.tables.specs.Sets.{Raised, pairFinal};
+ghost use Rattle.tables.specs.inner.Block.{FinalsAt};
+ghost use Rattle.tables.specs.inner.Sets.{Raised, pairFinal};
 
 // Both states of `true[*]` are final.
 const ANY_FINALS: u64 = 3;

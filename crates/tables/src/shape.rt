@@ -2,7 +2,7 @@
 ghost use Prim.Native.Nat.{ℕ, _<_, _≤_};
 ghost use Rattle.rules.specs.Definition1.{Rule, two, again};
 ghost use Rattle.rules.specs.Weight.{pairWeight, weightLimit};
-ghost use Rattle.tables.specs.Shapes.{Fits, ShapeOf, ShapedAs};
+ghost use Rattle.tables.specs.inner.Shapes.{Fits, ShapeOf, ShapedAs};
 use crate::finals::both_finals;
 use crate::finals::either_finals;
 use crate::finals::raise;

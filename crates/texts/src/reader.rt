@@ -2,7 +2,7 @@
 // and is known after the first of them: its place is left free until then.
 ghost use Prim.Native.Nat.{_+_, _*_, _≤_, _<_};
 ghost use lib.ListN.{length};
-ghost use Rattle.texts.specs.Places.{KindTaken, DigitTaken, FormulaTaken, JoinTaken, RuleTaken, BraceTaken, Closes};
+ghost use Rattle.texts.specs.inner.Places.{KindTaken, DigitTaken, FormulaTaken, JoinTaken, RuleTaken, BraceTaken, Closes};
 use crate::signs::NONE;
 use crate::signs::Sign;
 use crate::signs::junction_at;

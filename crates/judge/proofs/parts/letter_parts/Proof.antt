@@ -6,7 +6,7 @@ use borrow.Author.Needs.{needs}
 use Rattle.rules.specs.Definition1.{Formula}
 use Rattle.rules.specs.Places.{FormulaAt}
 use Rattle.judge.specs.Parts.{side}
-use Rattle.judge.specs.Cut.{LetterAt}
+use Rattle.judge.specs.inner.Cut.{LetterAt}
 use Rattle.judge.proofs.Rows.{RowsTo, rows-none, rows-one, rows-done}
 use Rattle.judge.proofs.parts.letter_parts.Statement.{statement}
 use Rattle.judge.proofs.parts.letter_parts.Tie as tie

@@ -4,7 +4,7 @@ use Prim.Native.Nat.{_-_}
 use native.Mathlib.Omega.{arith}
 use borrow.Author.Needs.{needs}
 use Rattle.judge.specs.Parts.{side}
-use Rattle.judge.specs.Cut.{PairAt}
+use Rattle.judge.specs.inner.Cut.{PairAt}
 use Rattle.judge.proofs.Rows.{RowsTo, rows-none, rows-one, rows-done}
 use Rattle.judge.proofs.parts.pair_parts.Statement.{statement}
 use Rattle.judge.proofs.parts.pair_parts.Tie as tie

@@ -5,7 +5,7 @@ use Prim.Native.Nat.{_-_}
 use native.Mathlib.Omega.{arith}
 use borrow.Author.Needs.{needs}
 use Rattle.judge.specs.Parts.{side}
-use Rattle.judge.specs.Cut.{CellAt}
+use Rattle.judge.specs.inner.Cut.{CellAt}
 use Rattle.judge.proofs.Rows.{RowTo, row-none, row-yes, row-no, row-done}
 use Rattle.judge.proofs.parts.row.Statement.{statement}
 use Rattle.judge.proofs.parts.row.Tie as tie

@@ -3,7 +3,7 @@ use mathlib.Core.Path.{refl}
 use mathlib.Core.Logic.{inl, inr}
 use native.Mathlib.Omega.{arith}
 use Rattle.rules.proofs.Walks.{rule-here}
-use Rattle.tables.specs.Building.{from}
+use Rattle.tables.specs.inner.Building.{from}
 use Rattle.tables.proofs.Shaping.{stands-good, fits-first, fits-second}
 use Rattle.tables.proofs.Building.{base-small, fits-zero}
 use Rattle.tables.proofs.Placing.{placed-any, both-nowhere, both-beside}

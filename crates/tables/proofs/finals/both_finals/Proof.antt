@@ -4,7 +4,7 @@ use Prim.Native.Nat.{_-_, _≤_}
 use native.Mathlib.Omega.{arith}
 use Rattle.bits.specs.Word.{word}
 use Rattle.bits.proofs.Laws.{word-none}
-use Rattle.tables.specs.Sets.{pairFinal}
+use Rattle.tables.specs.inner.Sets.{pairFinal}
 use Rattle.tables.proofs.FinalSets.{both-done}
 use borrow.Author.Needs.{needs}
 use Rattle.tables.proofs.finals.both_finals.Statement.{statement}

@@ -4,7 +4,7 @@ use Prim.Native.Nat.{ℕ, _+_, _*_}
 use native.Mathlib.Omega.{arith}
 use Rattle.rules.specs.declared.kinds.Pair.the-variants.{Then, Both}
 use Rattle.rules.specs.Definition1.{two}
-use Rattle.tables.specs.Block.{anyRule}
+use Rattle.tables.specs.inner.Block.{anyRule}
 use Rattle.tables.proofs.Ends.{within-finals}
 use Rattle.tables.proofs.FinalSets.{any-set}
 use borrow.Author.Needs.{needs}

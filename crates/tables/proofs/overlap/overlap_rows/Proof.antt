@@ -3,7 +3,7 @@ use mathlib.Core.Path.{_≡_, refl}
 use Prim.Native.Nat.{_-_, _≤_}
 use native.Mathlib.Omega.{arith}
 use lib.ListN.{length}
-use Rattle.tables.specs.Cells.{Put, overlapped}
+use Rattle.tables.specs.inner.Cells.{Put, overlapped}
 use Rattle.tables.proofs.Puts.{put-as, put-none}
 use Rattle.tables.proofs.Overlapping.{overlap-down}
 use Rattle.tables.proofs.overlap.overlap_rows.Statement.{statement}

@@ -3,7 +3,7 @@ use mathlib.Core.Path.{refl, ap₂}
 use Prim.Native.Nat.{_-_, _/_, _%_, _<_}
 use native.Mathlib.Omega.{arith}
 use lib.Bits.{bitAnd}
-use Rattle.tables.specs.Cells.{paired}
+use Rattle.tables.specs.inner.Cells.{paired}
 use Rattle.tables.proofs.Pairing.{part}
 use borrow.Author.Needs.{needs}
 use Rattle.tables.proofs.product.pair_label.Statement.{statement}

@@ -4,8 +4,8 @@ use native.Mathlib.Omega.{arith}
 use mathlib.Core.Path.{refl, subst}
 use lib.ListN.{length}
 use Rattle.rules.specs.Encoding.{spell}
-use Rattle.texts.specs.Reading.{rule}
-use Rattle.texts.specs.Places.{SignAt, took, broke}
+use Rattle.texts.specs.inner.Reading.{rule}
+use Rattle.texts.specs.inner.Places.{SignAt, took, broke}
 use Rattle.texts.proofs.Complete.{over-rule}
 use Rattle.texts.proofs.Lengths.{sign-length}
 use Rattle.texts.proofs.Taking.{as-upto, as-broken, then-sign}

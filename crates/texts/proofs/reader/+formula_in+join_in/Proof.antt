@@ -4,8 +4,8 @@ use native.Mathlib.Omega.{arith}
 use mathlib.Core.Path.{refl}
 use lib.ListN.{length}
 use Rattle.rules.specs.Encoding.{spellF}
-use Rattle.texts.specs.Reading.{formula}
-use Rattle.texts.specs.Places.{broke}
+use Rattle.texts.specs.inner.Reading.{formula}
+use Rattle.texts.specs.inner.Places.{broke}
 use Rattle.texts.proofs.Complete.{over-formula}
 use Rattle.texts.proofs.Taking.{as-upto, as-broken, then-sign}
 use Rattle.texts.proofs.AfterOperand.{is-junction, not-junction}

@@ -1,7 +1,7 @@
 -- `closed` looks for one more character. Assumes nothing.
 use native.Mathlib.Omega.{arith}
 use mathlib.Core.Path.{refl}
-use Rattle.texts.specs.Places.{was-broken, there, not-there}
+use Rattle.texts.specs.inner.Places.{was-broken, there, not-there}
 use borrow.Author.Needs.{needs}
 use Rattle.texts.proofs.reader.closed.Statement.{statement}
 use Rattle.texts.proofs.reader.closed.Tie as tie

@@ -1,7 +1,7 @@
 -- `digit_in` takes one of six digits. Assumes nothing.
 use native.Mathlib.Omega.{arith}
 use mathlib.Core.Path.{refl}
-use Rattle.texts.specs.Places.{took, broke}
+use Rattle.texts.specs.inner.Places.{took, broke}
 use Rattle.texts.proofs.Taking.{no-digit, past-digits, a-digit}
 use borrow.Author.Needs.{needs}
 use Rattle.texts.proofs.reader.digit_in.Statement.{statement}

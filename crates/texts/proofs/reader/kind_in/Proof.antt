@@ -1,6 +1,6 @@
 -- `kind_in` takes the word and writes its kind. Assumes nothing.
 use mathlib.Core.Path.{refl, subst}
-use Rattle.texts.specs.Places.{WordEnds, took, broke}
+use Rattle.texts.specs.inner.Places.{WordEnds, took, broke}
 use Rattle.texts.proofs.Spelling.{took-word}
 use borrow.Author.Needs.{needs}
 use Rattle.texts.proofs.reader.kind_in.Statement.{statement}

@@ -12,7 +12,7 @@ use Rattle.rules.specs.Definition2.{letterCount}
 use Rattle.rules.specs.Weight.{weightOf}
 use Rattle.tables.specs.Table.{cell}
 use Rattle.tables.specs.Build.{UpF, auto}
-use Rattle.tables.specs.Cells.{In}
+use Rattle.tables.specs.inner.Cells.{In}
 
 -- the square at base has the rule's labels
 pub record Block (t : List ℕ) (base : ℕ) (r : Rule) : Type 0 where

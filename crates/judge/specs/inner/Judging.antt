@@ -8,7 +8,7 @@ use Rattle.rules.specs.Definition1.{Formula, Rule, again}
 use Rattle.rules.specs.Definition2.{Sat}
 use Rattle.rules.specs.Places.{FormulaAt, RuleAt}
 use Rattle.judge.specs.Parts.{Judged, RowOf, Filled}
-use Rattle.judge.specs.Cut.{LetterAt}
+use Rattle.judge.specs.inner.Cut.{LetterAt}
 
 -- which parts of w, of those that begin at i and of all, are one letter of which the formula holds
 abbrev pub LetterRow : List ℕ → ℕ → List ℕ → ℕ → ℕ → Type 0

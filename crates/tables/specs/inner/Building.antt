@@ -14,9 +14,9 @@ use Rattle.tables.specs.declared.product.Pairs.{Pairs}
 use Rattle.tables.specs.declared.fill.Place.{Place}
 use Rattle.tables.specs.declared.fill.Place.the-variants.{Nowhere, From}
 use Rattle.tables.specs.Table.{tableEntries}
-use Rattle.tables.specs.Cells.{Clean}
-use Rattle.tables.specs.Block.{Beside, Built}
-use Rattle.tables.specs.Shapes.{ShapeOf}
+use Rattle.tables.specs.inner.Cells.{Clean}
+use Rattle.tables.specs.inner.Block.{Beside, Built}
+use Rattle.tables.specs.inner.Shapes.{ShapeOf}
 
 -- the slice is long enough for a table, and has no label from base on
 pub record Ready (t : List ℕ) (base : ℕ) : Type 0 where

@@ -6,7 +6,7 @@ use Rattle.rules.specs.Definition1.{Rule}
 use Rattle.rules.specs.Places.{RuleAt}
 use Rattle.rules.specs.Weight.{weightOf, weightLimit}
 use Rattle.tables.specs.declared.shape.Shape.{Shape}
-use Rattle.tables.specs.Block.{FinalsAt}
+use Rattle.tables.specs.inner.Block.{FinalsAt}
 
 -- a rule stands at the place, and its table has room from base on
 pub record Fits (s : List ℕ) (at base : ℕ) : Type 0 where

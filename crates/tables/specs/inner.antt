@@ -1,0 +1,5 @@
+pub mod Cells
+pub mod Block
+pub mod Sets
+pub mod Shapes
+pub mod Building
