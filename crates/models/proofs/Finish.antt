@@ -18,19 +18,20 @@ use Rattle.models.specs.Stored.{column, stored, Held}
 use Rattle.models.specs.Answer.{number, place, Result, accepted, refusedAs, given, answer, told, onward, counted}
 use Rattle.models.proofs.Passes.{counts}
 use Rattle.models.proofs.Soundness.{answer-held}
+use Rattle.models.specs.Model.{modelStates}
 
 -- the columns together are the stored model
 pub stored-as : (s : List ℕ) (n : ℕ) (l : List ℕ) (i : ℕ) (t : List ℕ) → l ≡ column n (letter s) → i ≡ word n (λ k. eqb (flag s k) 1)
     → t ≡ column n (successors s) → _≡_ {A = ModelData} (record { states = n; letters = l; initial = i; successors = t }) (stored s n)
 stored-as s n l i t p q r = cc
 
-module _ (s : List ℕ) (c : Counted) (e : counted c ≡ records 64 s 0) where
+module _ (s : List ℕ) (c : Counted) (e : counted c ≡ records modelStates s 0) where
   -- a fault of the first pass
   pub told-fault : (x : Refusal) → c ≡ Fault x → refusedAs (number x) (place x) ≡ answer s
   told-fault x q = ap (λ (o : Outcome). given s (thenLinked s o)) (ap counted (sym q) ∙ e)
 
   module _ (n : ℕ) (q : c ≡ States n) where
-    read-good : good n ≡ records 64 s 0
+    read-good : good n ≡ records modelStates s 0
     read-good = ap counted (sym q) ∙ e
 
     -- what the second pass and the columns ask for

@@ -14,6 +14,7 @@ use Rattle.models.specs.declared.ModelAnswer.{ModelAnswer}
 use Rattle.models.specs.declared.ModelAnswer.the-variants.{Accepted, Refused}
 use Rattle.models.specs.Answer.{number, place, onward}
 use Rattle.models.specs.Reading.{Outcome, good, fault, demand, letter, successors, oneRecord, ended, records, straying, linked}
+use Rattle.models.specs.Model.{modelStates}
 
 -- ---- one record: the first test that fails decides
 
@@ -86,28 +87,28 @@ module _ (s : List ℕ) where
   records-full h = simp (lt-leb _ _ h)
 
   -- the loop's end
-  pub records-last : (k : ℕ) → k ≤ 64 → 64 ≤ k → records (64 - k) s k ≡ records 64 s 0 → records 0 s 64 ≡ records 64 s 0
+  pub records-last : (k : ℕ) → k ≤ modelStates → 64 ≤ k → records (64 - k) s k ≡ records modelStates s 0 → records 0 s 64 ≡ records modelStates s 0
   records-last k l h i = let e : 64 ≡ k = omega arith in ap (λ (j : ℕ). records (64 - j) s j) e ∙ i
 
   pub one-more : (room k : ℕ) → 11 * k < length s → records (suc room) s k ≡ oneRecord s (11 * k) (records room s (k + 1))
   unfolding records
   one-more room k h = simp (lt-leb _ _ h)
 
-  pub records-next : (k : ℕ) → k < 64 → 11 * k < length s → records (64 - k) s k ≡ oneRecord s (11 * k) (records (64 - (k + 1)) s (k + 1))
+  pub records-next : (k : ℕ) → k < modelStates → 11 * k < length s → records (64 - k) s k ≡ oneRecord s (11 * k) (records (64 - (k + 1)) s (k + 1))
   records-next k l h =
       let e : 64 - k ≡ suc (64 - (k + 1)) = omega arith in
       ap (λ (room : ℕ). records room s k) e ∙ one-more (64 - (k + 1)) k h
 
   -- a turn of the loop: what is left to read at state k is what was to be read at first
-  module _ (k : ℕ) (l : k < 64) (h : 11 * k < length s) (r : ModelAnswer) (e : (on : Outcome) → oneRecord s (11 * k) on ≡ onward r on)
-      (i : records (64 - k) s k ≡ records 64 s 0) where
-    turned : onward r (records (64 - (k + 1)) s (k + 1)) ≡ records 64 s 0
+  module _ (k : ℕ) (l : k < modelStates) (h : 11 * k < length s) (r : ModelAnswer) (e : (on : Outcome) → oneRecord s (11 * k) on ≡ onward r on)
+      (i : records (64 - k) s k ≡ records modelStates s 0) where
+    turned : onward r (records (64 - (k + 1)) s (k + 1)) ≡ records modelStates s 0
     turned = sym (e (records (64 - (k + 1)) s (k + 1))) ∙ sym (records-next k l h) ∙ i
 
-    pub records-fault : (x : Refusal) → r ≡ Refused x → fault (number x) (place x) ≡ records 64 s 0
+    pub records-fault : (x : Refusal) → r ≡ Refused x → fault (number x) (place x) ≡ records modelStates s 0
     records-fault x q = ap (λ (r : ModelAnswer). onward r (records (64 - (k + 1)) s (k + 1))) (sym q) ∙ turned
 
-    pub records-on : r ≡ Accepted → records (64 - (k + 1)) s (k + 1) ≡ records 64 s 0
+    pub records-on : r ≡ Accepted → records (64 - (k + 1)) s (k + 1) ≡ records modelStates s 0
     records-on q = ap (λ (r : ModelAnswer). onward r (records (64 - (k + 1)) s (k + 1))) (sym q) ∙ turned
 
 -- what a good end tells of the n states that were read from state k on

@@ -16,13 +16,14 @@ use Rattle.models.specs.Stored.{column, stored, noStates, modelOf, Sound
 use Rattle.models.specs.Answer.{given, answer}
 use Rattle.models.proofs.Passes.{counts, linked-good}
 use Rattle.models.proofs.Columns.{column-long, column-at, column-past}
+use Rattle.models.specs.Model.{modelStates}
 
 -- a set with no member at or above n
 pub stays : (n w t : ℕ) → w < 2 ^ 64 → straying n w ≡ false → bit w t ≡ true → t < n
 unfolding straying
 stays n w t h e b = ⊎-elim (λ l. l) (λ l. absurd (false≢true (sym e ∙ any-intro 64 (λ t. bit w t && not (ltb t n)) t inside (out l)))) (lt-or-ge t n)
   where
-    inside : t < 64
+    inside : t < modelStates
     inside = ⊎-elim (λ l. l) (λ l. absurd (false≢true (sym (bit-above 64 w t h l) ∙ b))) (lt-or-ge t 64)
 
     out : n ≤ t → bit w t && not (ltb t n) ≡ true
@@ -32,8 +33,8 @@ stays n w t h e b = ⊎-elim (λ l. l) (λ l. absurd (false≢true (sym e ∙ an
 no-bit : (w t : ℕ) → w ≡ 0 → bit w t ≡ true → ⊥
 no-bit w t e b = false≢true (sym (bit-zero t) ∙ ap (λ (x : ℕ). bit x t) (sym e) ∙ b)
 
-zeros : (i : ℕ) → _≡_ {A = ℕ} (getD (replicate 64 0) i 0) 0
-zeros i = ⊎-elim (λ l. getD-replicate 64 i 0 0 l) (λ l. List·getD-eq-default (replicate 64 0) 0 l) (lt-or-ge i 64)
+zeros : (i : ℕ) → _≡_ {A = ℕ} (getD (replicate modelStates 0) i 0) 0
+zeros i = ⊎-elim (λ l. getD-replicate modelStates i 0 0 l) (λ l. List·getD-eq-default (replicate modelStates 0) 0 l) (lt-or-ge i 64)
 
 none-sound : Sound (modelOf noStates)
 none-sound = record {
@@ -49,7 +50,7 @@ none-held = record { letters-long = refl; successors-long = refl; sound = none-s
 
 module _ (s : List ℕ) (bytes : (i : ℕ) → getD s i 0 < 256) where
   -- n states whose letters are below 64 and whose successors stay below n
-  module _ (n : ℕ) (few : n ≤ 64) (small : (j : ℕ) → j < n → letter s j ≤ 63) (stay : (j : ℕ) → j < n → straying n (successors s j) ≡ false) where
+  module _ (n : ℕ) (few : n ≤ modelStates) (small : (j : ℕ) → j < n → letter s j ≤ 63) (stay : (j : ℕ) → j < n → straying n (successors s j) ≡ false) where
     letter-below : (i : ℕ) → getD (column n (letter s)) i 0 < 64
     letter-below i =
         ⊎-elim (λ l. subst (λ (x : ℕ). x < 64) (sym (column-at n (letter s) i few l)) (suc-le-suc (small i l)))
@@ -74,7 +75,7 @@ module _ (s : List ℕ) (bytes : (i : ℕ) → getD s i 0 < 256) where
       sound = record { few = few; letter-small = letter-below; initial-exists = initial-below; next-from = from-below; next-exists = next-below };
     }
 
-  linked-held : (n : ℕ) → records 64 s 0 ≡ good n → (o : Outcome) → linked n s n 0 ≡ o → Held (given s o .model)
+  linked-held : (n : ℕ) → records modelStates s 0 ≡ good n → (o : Outcome) → linked n s n 0 ≡ o → Held (given s o .model)
   linked-held n e (fault number place) q = none-held
   linked-held n e (good m) q =
       let k = counts s 64 0 n e in
@@ -83,8 +84,8 @@ module _ (s : List ℕ) (bytes : (i : ℕ) → getD s i 0 < 256) where
       (stored-held n (omega (arith, k .few)) (λ j l. k .letters j zero-le l) (λ j l. g .1 j zero-le (omega arith)))
 
   pub answer-held : Held (answer s .model)
-  answer-held = go (records 64 s 0) refl
+  answer-held = go (records modelStates s 0) refl
     where
-      go : (o : Outcome) → records 64 s 0 ≡ o → Held (given s (thenLinked s o) .model)
+      go : (o : Outcome) → records modelStates s 0 ≡ o → Held (given s (thenLinked s o) .model)
       go (fault number place) e = none-held
       go (good n) e = linked-held n e (linked n s n 0) refl

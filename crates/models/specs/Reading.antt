@@ -7,6 +7,7 @@ use lib.Dec.{eqb, leb, ltb}
 use lib.ListN.{length, getD}
 use Rattle.bits.specs.Word.{bit, any}
 use Rattle.bits.specs.Bytes.{little}
+use Rattle.models.specs.Model.{modelStates}
 
 -- what reading comes to: the number of states, or a refusal's number and place
 pub data Outcome : Type 0 where
@@ -50,7 +51,7 @@ records (suc room) s k = ended (leb (length s) (11 * k)) k (oneRecord s (11 * k)
 
 -- the set w has a member that is none of the n states
 unfoldable pub straying : ℕ → ℕ → Bool
-straying n w = any 64 (λ t. bit w t && not (ltb t n))
+straying n w = any modelStates (λ t. bit w t && not (ltb t n))
 
 -- the successors of `left` states, of n, from state k on: the lowest state that has one which does not exist is at fault
 unfoldable pub linked : ℕ → List ℕ → ℕ → ℕ → Outcome
@@ -64,9 +65,9 @@ thenLinked s (fault number place) = fault number place
 
 -- a model has at most 64 states
 abbrev pub reading : List ℕ → Outcome
-reading s = thenLinked s (records 64 s 0)
+reading s = thenLinked s (records modelStates s 0)
 
 -- the bytes have the whole records of n states, and no model has more than 64
 pub record Whole (s : List ℕ) (n : ℕ) : Type 0 where
-  pub few : n ≤ 64
+  pub few : n ≤ modelStates
   pub long : 11 * n ≤ length s

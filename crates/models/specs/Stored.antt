@@ -7,7 +7,7 @@ use lib.Dec.{eqb, ltb}
 use lib.ListN.{length, getD, replicate}
 use Rattle.bits.specs.Word.{bit, word}
 use Rattle.models.specs.declared.ModelData.{ModelData}
-use Rattle.models.specs.Model.{Model}
+use Rattle.models.specs.Model.{modelStates, Model}
 use Rattle.models.specs.Reading.{letter, flag, successors}
 
 -- v 0 to v (m - 1)
@@ -21,7 +21,7 @@ orZero false x = 0
 
 -- 64 entries: v k for each of the n states k, and 0 past them
 unfoldable pub column : ℕ → (ℕ → ℕ) → List ℕ
-column n v = entries 64 (λ k. orZero (ltb k n) (v k))
+column n v = entries modelStates (λ k. orZero (ltb k n) (v k))
 
 -- the n states that the bytes spell
 abbrev pub stored : List ℕ → ℕ → ModelData
@@ -34,7 +34,7 @@ stored s n = record {
 
 -- no states: all zeros
 abbrev pub noStates : ModelData
-noStates = record { states = 0; letters = replicate 64 0; initial = 0; successors = replicate 64 0 }
+noStates = record { states = 0; letters = replicate modelStates 0; initial = 0; successors = replicate modelStates 0 }
 
 -- the model that letters, initial states and successors by state stand for
 abbrev pub modelWith : ℕ → List ℕ → ℕ → List ℕ → Model
@@ -50,7 +50,7 @@ modelOf m = modelWith (m .states) (m .letters) (m .initial) (m .successors)
 
 -- at most 64 states, letters that there are, and initial states and successors among the states
 pub record Sound (M : Model) : Type 0 where
-  pub few : M .states ≤ 64
+  pub few : M .states ≤ modelStates
   pub letter-small : (s : ℕ) → M .letter s < 64
   pub initial-exists : (s : ℕ) → M .initial s ≡ true → s < M .states
   pub next-from : (s t : ℕ) → M .next s t ≡ true → s < M .states
@@ -58,6 +58,6 @@ pub record Sound (M : Model) : Type 0 where
 
 -- what holds of every model that the reader gives back
 pub record Held (m : ModelData) : Type 0 where
-  pub letters-long : length (m .letters) ≡ 64
-  pub successors-long : length (m .successors) ≡ 64
+  pub letters-long : length (m .letters) ≡ modelStates
+  pub successors-long : length (m .successors) ≡ modelStates
   pub sound : Sound (modelOf m)

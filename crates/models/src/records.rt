@@ -6,6 +6,7 @@ ghost use Prim.Native.Nat.{_<_, _≤_};
 ghost use lib.ListN.{length};
 ghost use Rattle.models.specs.Reading.{Outcome, good, oneRecord, records, straying, linked, Whole};
 ghost use Rattle.models.specs.Answer.{onward, counted};
+ghost use Rattle.models.specs.Model.{modelStates};
 use crate::ModelAnswer;
 use crate::Refusal;
 use crate::layout::FLAG;
@@ -51,7 +52,7 @@ fn record_at(model: &[u8], at: usize) -> ModelAnswer
 
 // Reads the records one after the other: how many there are, or the first fault.
 pub fn count_states(model: &[u8]) -> Counted
-    ensures { λ r. ⌜ counted r ≡ records 64 (now (model .entry)) 0 ⌝ }
+    ensures { λ r. ⌜ counted r ≡ records modelStates (now (model .entry)) 0 ⌝ }
 {
     let mut k: usize = 0;
     while k < MOST {
@@ -72,7 +73,7 @@ pub fn count_states(model: &[u8]) -> Counted
 
 // Whether a set of successors has one at or above n.
 fn strays(set: u64, n: usize) -> bool
-    requires { ⌜ n ≤ 64 ⌝ }
+    requires { ⌜ n ≤ modelStates ⌝ }
     ensures { λ r. ⌜ r ≡ straying n set ⌝ }
 {
     set & !below(n) != 0

@@ -8,6 +8,7 @@ ghost use lib.Dec.{eqb};
 ghost use Rattle.bits.specs.Word.{word};
 ghost use Rattle.models.specs.Reading.{letter, flag, successors, Whole};
 ghost use Rattle.models.specs.Stored.{column, stored};
+ghost use Rattle.models.specs.Model.{modelStates};
 use crate::ModelData;
 use crate::layout::FLAG;
 use crate::layout::INITIAL;
@@ -31,7 +32,7 @@ fn letters_of(model: &[u8], n: usize) -> [u8; 64]
 
 // The set with state k in it where its flag is 1.
 fn flagged(set: u64, k: usize, flag: u8) -> u64
-    requires { ⌜ k < 64 ⌝ }
+    requires { ⌜ k < modelStates ⌝ }
     ensures { λ r. ⌜ ((f : ℕ → Bool) → set ≡ word k f → eqb flag 1 ≡ f k → r ≡ word (k + 1) f) ⌝ }
 {
     if flag == INITIAL { with(set, k) } else { set }

@@ -20,7 +20,7 @@ use Rattle.rules.proofs.Weighing.{weight-pos}
 use Rattle.tables.specs.declared.shape.Shape.{Shape}
 use Rattle.tables.specs.declared.fill.Place.{Place}
 use Rattle.tables.specs.declared.fill.Place.the-variants.{Nowhere, From}
-use Rattle.tables.specs.Table.{tableEntries}
+use Rattle.tables.specs.Table.{tableStates, tableEntries}
 use Rattle.tables.specs.inner.Cells.{Put, Clean}
 use Rattle.tables.specs.inner.Block.{Built, Beside}
 use Rattle.tables.specs.inner.Shapes.{Fits, ShapeOf, ShapedAs}
@@ -45,16 +45,16 @@ placed-nowhere p base m n (nowhere h) = h
 -- ---- a rule by its kind
 
 module _ (s : List ℕ) (at base : ℕ) (g : Fits s at base) where
-  pub base-small : base < 64
+  pub base-small : base < tableStates
   base-small = omega (arith, g .room, weight-pos (g .rule))
 
   pub fits-zero : Fits s at 0
   fits-zero = record { rule = g .rule; past = g .past; stands = g .stands; room = omega (arith, g .room) }
 
-  pub shape-room : (h : Shape) → ShapedAs s at h → (0 < h .weight) × (base + h .weight ≤ 64)
+  pub shape-room : (h : Shape) → ShapedAs s at h → (0 < h .weight) × (base + h .weight ≤ tableStates)
   shape-room h u = let o = u .told (g .rule) (g .past) (g .stands) in (omega (arith, o .weighs, weight-pos (g .rule)), omega (arith, o .weighs, g .room))
 
-  pub letter-room : kindOf (getD s at 0) ≡ OfRule Letter → base + 2 ≤ 64
+  pub letter-room : kindOf (getD s at 0) ≡ OfRule Letter → base + 2 ≤ tableStates
   letter-room q = let i = rule-of s (OfRule Letter) (g .stands) q in rw (i .1) at (g .room)
 
   pub letter-done : kindOf (getD s at 0) ≡ OfRule Letter → (t t₁ : List ℕ) (l : Labelled) → Ready t base → LabelledAs s (at + 1) l
@@ -113,7 +113,7 @@ module _ {s : List ℕ} {at base : ℕ} {p : Pair} {h k : Shape} (w : TwoAt s at
         second-shape = w .second .told (i .1) e d₂;
       }
 
-  pub weights : (0 < h .weight) × (0 < k .weight) × (base + pairWeight p (h .weight) (k .weight) ≤ 64)
+  pub weights : (0 < h .weight) × (0 < k .weight) × (base + pairWeight p (h .weight) (k .weight) ≤ tableStates)
   weights = pair-weights s at base (w .fits) p (w .kind) h k (w .first) (w .second)
 
 -- ---- where its operands go, before they are built
@@ -164,10 +164,10 @@ module _ (s : List ℕ) (at base : ℕ) (g : Fits s at base) (p : Pair) (q : kin
       same-room x z d = rw (rule-once s (g .stands) x z d .0) at (g .room)
 
 module _ {s : List ℕ} {at base : ℕ} {p : Pair} {lo : ℕ} (w : LaidAt s at base p lo) where
-  room-all : lo + (weightOf (w .first) + weightOf (w .second)) ≤ 64
+  room-all : lo + (weightOf (w .first) + weightOf (w .second)) ≤ tableStates
   room-all = let l : base + pairWeight p (weightOf (w .first)) (weightOf (w .second)) ≤ weightLimit = rw (w .whole) at (w .fits .room) in omega (arith, w .inside)
 
-  pub lo-small : lo < 64
+  pub lo-small : lo < tableStates
   lo-small = let l = room-all in let h = weight-pos (w .first) in omega arith
 
   pub fits-lo : Fits s (at + 1) lo
@@ -182,7 +182,7 @@ module _ {s : List ℕ} {at base : ℕ} {p : Pair} {lo : ℕ} (w : LaidAt s at b
     pub further : at + 1 < h .end
     further = let r = rule-ends s (w .first-stands) .0 in let e = shape .ends in omega arith
 
-    pub mid-small : lo + h .weight < 64
+    pub mid-small : lo + h .weight < tableStates
     mid-small = let l = room-all in let k = weight-pos (w .second) in let e = shape .weighs in omega arith
 
     pub fits-mid : Fits s (h .end) (lo + h .weight)

@@ -9,7 +9,7 @@ use Rattle.rules.specs.declared.kinds.Pair.the-variants.{Either}
 use Rattle.rules.specs.Definition1.{Rule, two}
 use Rattle.rules.specs.Weight.{weightOf}
 use Rattle.tables.specs.declared.shape.Shape.{Shape}
-use Rattle.tables.specs.Table.{cell}
+use Rattle.tables.specs.Table.{tableStates, cell}
 use Rattle.tables.specs.Build.{auto, Up, EitherStep}
 use Rattle.tables.specs.inner.Cells.{In, Put, Clean, chosen}
 use Rattle.tables.specs.inner.Block.{Built, Beside}
@@ -19,6 +19,7 @@ use Rattle.tables.proofs.Eithers.{either-a, either-b}
 use Rattle.tables.proofs.Language.{good, size-weight}
 use Rattle.tables.proofs.Serving.{step-inside}
 use Rattle.tables.proofs.Places.{by-cell, by-none, drop-none, block-at, drop-sum, blank}
+use Rattle.rules.specs.Definition2.{letterCount}
 
 -- a state of `|` is the new one, one of a's moved up by 1, or one of b's moved up by 1+m
 data Third (m n p : ℕ) : Type 0 where
@@ -65,15 +66,15 @@ module _ (a b : Rule) where
   either-b-step p x q i d =
       let d' : p ≡ 1 + auto a .size + i = omega (arith, size-weight a) in rw d' (either-b (auto a) (auto b) (good a) (good b) i x q)
 
-module _ (t t₂ t₃ : List ℕ) (base : ℕ) (a b : Rule) (clean : Clean t base) (room : base + 1 + weightOf a + weightOf b ≤ 64) (s : Beside t t₂ (base + 1) a b)
+module _ (t t₂ t₃ : List ℕ) (base : ℕ) (a b : Rule) (clean : Clean t base) (room : base + 1 + weightOf a + weightOf b ≤ tableStates) (s : Beside t t₂ (base + 1) a b)
     (put : Put t₂ t₃ base (base + 1) (base + 1) (base + 1 + weightOf a + weightOf b) (chosen t₂ base (base + 1 + weightOf a))) where
   -- a place outside both blocks
-  outer : (P Q : ℕ) → base ≤ P → P < 64 → base ≤ Q → Q < 64 → (In base (base + 1) (base + 1) (base + 1 + weightOf a + weightOf b) P Q → ⊥)
+  outer : (P Q : ℕ) → base ≤ P → P < tableStates → base ≤ Q → Q < tableStates → (In base (base + 1) (base + 1) (base + 1 + weightOf a + weightOf b) P Q → ⊥)
       → (In (base + 1) (base + 1 + weightOf a) (base + 1) (base + 1 + weightOf a) P Q → ⊥)
       → (In (base + 1 + weightOf a) (base + 1 + weightOf a + weightOf b) (base + 1 + weightOf a) (base + 1 + weightOf a + weightOf b) P Q → ⊥) → cell t₃ P Q ≡ 0
   outer P Q hp lp hq lq u v w = put .old P Q lq u ∙ blank t t₂ base (base + 1) a b clean s P Q hp lp hq lq v w
 
-  either-label : (p q x : ℕ) → p < 1 + weightOf a + weightOf b → q < 1 + weightOf a + weightOf b → x < 64
+  either-label : (p q x : ℕ) → p < 1 + weightOf a + weightOf b → q < 1 + weightOf a + weightOf b → x < letterCount
       → Has (cell t₃ (base + p) (base + q)) x ↔ auto (two Either a b) .step p x q
   either-label p q x hp hq hx = go (third (weightOf a) (weightOf b) p hp) (third (weightOf a) (weightOf b) q hq)
     where
@@ -121,7 +122,7 @@ module _ (t t₂ t₃ : List ℕ) (base : ℕ) (a b : Rule) (clean : Clean t bas
   }
 
 -- the new state at base, a at base + 1 to mid, b at mid to hi
-module _ (t t₂ t₃ : List ℕ) (base mid hi : ℕ) (a b : Rule) (clean : Clean t base) (e : mid ≡ base + 1 + weightOf a) (d : hi ≡ mid + weightOf b) (room : hi ≤ 64)
+module _ (t t₂ t₃ : List ℕ) (base mid hi : ℕ) (a b : Rule) (clean : Clean t base) (e : mid ≡ base + 1 + weightOf a) (d : hi ≡ mid + weightOf b) (room : hi ≤ tableStates)
     (s : Beside t t₂ (base + 1) a b) where
   pub either-built : Put t₂ t₃ base (base + 1) (base + 1) hi (chosen t₂ base mid) → Built t t₃ base (two Either a b)
   either-built put = either-block t t₂ t₃ base a b clean (omega arith) s (rw (d, e) at put)

@@ -8,7 +8,7 @@ use Rattle.rules.specs.declared.kinds.Pair.the-variants.{Then, Overlap}
 use Rattle.rules.specs.Definition1.{Rule, two}
 use Rattle.rules.specs.Weight.{weightOf}
 use Rattle.tables.specs.declared.shape.Shape.{Shape}
-use Rattle.tables.specs.Table.{cell}
+use Rattle.tables.specs.Table.{tableStates, cell}
 use Rattle.tables.specs.Build.{auto}
 use Rattle.tables.specs.inner.Cells.{In, Put, Clean, linked, overlapped}
 use Rattle.tables.specs.inner.Block.{FinalsAt, Block, Built, Beside}
@@ -22,13 +22,14 @@ use Rattle.rules.proofs.Weighing.{weight-pos}
 use Rattle.tables.proofs.Serving.{step-inside, final-inside}
 use Rattle.tables.proofs.FinalSets.{raise-finals}
 use Rattle.tables.proofs.Places.{split, by-cell, by-none, drop-none, block-at, drop-sum, final-at, blank}
+use Rattle.rules.specs.Definition2.{letterCount}
 
-module _ (t t₂ t₃ : List ℕ) (base : ℕ) (a b : Rule) (g : ℕ → ℕ → ℕ) (room : base + weightOf a + weightOf b ≤ 64) (clean : Clean t base) (s : Beside t t₂ base a b)
+module _ (t t₂ t₃ : List ℕ) (base : ℕ) (a b : Rule) (g : ℕ → ℕ → ℕ) (room : base + weightOf a + weightOf b ≤ tableStates) (clean : Clean t base) (s : Beside t t₂ base a b)
     (put : Put t₂ t₃ base (base + weightOf a) (base + weightOf a) (base + weightOf a + weightOf b) g) (S : ℕ → ℕ → ℕ → Type 0)
     (aa : (p x q : ℕ) → q < weightOf a → S p x q ↔ auto a .step p x q)
     (bb : (p x q i j : ℕ) → p ≡ weightOf a + i → q ≡ weightOf a + j → S p x q ↔ auto b .step i x j)
-    (ab : (p x q j : ℕ) → p < weightOf a → q ≡ weightOf a + j → j < weightOf b → x < 64 → Has (g (base + p) (base + q)) x ↔ S p x q) where
-  across : (p q x : ℕ) → p < weightOf a + weightOf b → q < weightOf a + weightOf b → x < 64 → Has (cell t₃ (base + p) (base + q)) x ↔ S p x q
+    (ab : (p x q j : ℕ) → p < weightOf a → q ≡ weightOf a + j → j < weightOf b → x < letterCount → Has (g (base + p) (base + q)) x ↔ S p x q) where
+  across : (p q x : ℕ) → p < weightOf a + weightOf b → q < weightOf a + weightOf b → x < letterCount → Has (cell t₃ (base + p) (base + q)) x ↔ S p x q
   across p q x hp hq hx = go (split p (weightOf a) (weightOf b) hp) (split q (weightOf a) (weightOf b) hq)
     where
       go : (p < weightOf a) ⊎ ((i : ℕ) × (p ≡ weightOf a + i) × (i < weightOf b)) → (q < weightOf a) ⊎ ((j : ℕ) × (q ≡ weightOf a + j) × (j < weightOf b))
@@ -47,7 +48,7 @@ module _ (t t₂ t₃ : List ℕ) (base : ℕ) (a b : Rule) (g : ℕ → ℕ →
           by-cell (cell t₃ (base + p) (base + q)) (cell t₂ (base + p) (base + q)) x (put .old (base + p) (base + q) (omega arith) (λ i. omega arith))
           (Iff·trans (block-at t₂ (base + weightOf a) b (s .b-block) (base + p) (base + q) i j x (omega arith) (omega arith) li lj hx) (Iff·symm (bb p x q i j d e)))
 
-  across-others : (p q : ℕ) → q < 64
+  across-others : (p q : ℕ) → q < tableStates
       → (In base (base + (weightOf a + weightOf b)) base (base + (weightOf a + weightOf b)) p q → ⊥) → cell t₃ p q ≡ cell t p q
   across-others p q h out = put .old p q h (λ i. out (omega arith)) ∙ s .others p q h (λ i. out (omega arith)) (λ i. out (omega arith))
 
@@ -86,18 +87,18 @@ module _ (a b : Rule) where
       let e' : q ≡ auto a .size + j = omega (arith, size-weight a) in
       rw e' (overlap-ab (auto a) (auto b) (good a) (good b) p x j (omega (arith, size-weight a)))
 
-module _ (t t₂ t₃ : List ℕ) (base f : ℕ) (a b : Rule) (clean : Clean t base) (room : base + weightOf a + weightOf b ≤ 64)
+module _ (t t₂ t₃ : List ℕ) (base f : ℕ) (a b : Rule) (clean : Clean t base) (room : base + weightOf a + weightOf b ≤ tableStates)
     (s : Beside t t₂ base a b) (fa : FinalsAt f base a) where
   -- in the rectangle there was nothing
   above : (p q j : ℕ) → p < weightOf a → q ≡ weightOf a + j → j < weightOf b → cell t₂ (base + p) (base + q) ≡ 0
   above p q j lp e lj = blank t t₂ base base a b clean s (base + p) (base + q) (omega arith) (omega arith) (omega arith) (omega arith) (λ i. omega arith) (λ i. omega arith)
 
   -- what leaves b's first state
-  leaves-b : (q j x : ℕ) → q ≡ weightOf a + j → j < weightOf b → x < 64 → Has (cell t₂ (base + weightOf a) (base + q)) x ↔ auto b .step 0 x j
+  leaves-b : (q j x : ℕ) → q ≡ weightOf a + j → j < weightOf b → x < letterCount → Has (cell t₂ (base + weightOf a) (base + q)) x ↔ auto b .step 0 x j
   leaves-b q j x e lj hx =
       block-at t₂ (base + weightOf a) b (s .b-block) (base + weightOf a) (base + q) 0 j x (omega arith) (omega arith) (omega (arith, weight-pos b)) lj hx
 
-  then-ab-label : (p x q j : ℕ) → p < weightOf a → q ≡ weightOf a + j → j < weightOf b → x < 64
+  then-ab-label : (p x q j : ℕ) → p < weightOf a → q ≡ weightOf a + j → j < weightOf b → x < letterCount
       → Has (linked t₂ (base + weightOf a) f (base + p) (base + q)) x ↔ auto (two Then a b) .step p x q
   then-ab-label p x q j lp e lj hx =
       let c = Iff·trans (has-linked t₂ (base + weightOf a) f (base + p) (base + q) x) (drop-none (cell t₂ (base + p) (base + q)) x (above p q j lp e lj)) in
@@ -112,7 +113,7 @@ module _ (t t₂ t₃ : List ℕ) (base f : ℕ) (a b : Rule) (clean : Clean t b
     others = across-others t t₂ t₃ base a b (linked t₂ (base + weightOf a) f) room clean s put (auto (two Then a b) .step) (then-aa-step a b) (then-bb-step a b) then-ab-label;
   }
 
-  overlap-out : (p x q j : ℕ) → p < weightOf a → q ≡ weightOf a + j → j < weightOf b → x < 64
+  overlap-out : (p x q j : ℕ) → p < weightOf a → q ≡ weightOf a + j → j < weightOf b → x < letterCount
       → Has (overlapped t₂ f base (base + weightOf a) (weightOf a) (base + p) (base + q)) x → auto (two Overlap a b) .step p x q
   overlap-out p x q j lp e lj hx h =
       let w = drop-none (cell t₂ (base + p) (base + q)) x (above p q j lp e lj) .0 (overlapped-out t₂ f base (base + weightOf a) (weightOf a) (base + p) (base + q) x h) in
@@ -120,7 +121,7 @@ module _ (t t₂ t₃ : List ℕ) (base f : ℕ) (a b : Rule) (clean : Clean t b
       overlap-ab-step a b p x q j lp e .1
       (w .by, s .a-block .label p (w .by) x lp lw hx .0 (w .first), final-at f base a fa (base + w .by) (w .by) refl (omega arith) .0 (w .ends), leaves-b q j x e lj hx .0 (w .second))
 
-  overlap-in : (p x q j : ℕ) → p < weightOf a → q ≡ weightOf a + j → j < weightOf b → x < 64
+  overlap-in : (p x q j : ℕ) → p < weightOf a → q ≡ weightOf a + j → j < weightOf b → x < letterCount
       → auto (two Overlap a b) .step p x q → Has (overlapped t₂ f base (base + weightOf a) (weightOf a) (base + p) (base + q)) x
   overlap-in p x q j lp e lj hx k =
       let h = overlap-ab-step a b p x q j lp e .0 k in
@@ -134,7 +135,7 @@ module _ (t t₂ t₃ : List ℕ) (base f : ℕ) (a b : Rule) (clean : Clean t b
         second = leaves-b q j x e lj hx .1 (h .3);
       }))
 
-  overlap-ab-label : (p x q j : ℕ) → p < weightOf a → q ≡ weightOf a + j → j < weightOf b → x < 64
+  overlap-ab-label : (p x q j : ℕ) → p < weightOf a → q ≡ weightOf a + j → j < weightOf b → x < letterCount
       → Has (overlapped t₂ f base (base + weightOf a) (weightOf a) (base + p) (base + q)) x ↔ auto (two Overlap a b) .step p x q
   overlap-ab-label p x q j lp e lj hx = (overlap-out p x q j lp e lj hx, overlap-in p x q j lp e lj hx)
 
@@ -146,7 +147,7 @@ module _ (t t₂ t₃ : List ℕ) (base f : ℕ) (a b : Rule) (clean : Clean t b
   }
 
 -- a at base to mid, b at mid to hi
-module _ (t t₂ t₃ : List ℕ) (base mid hi f : ℕ) (a b : Rule) (clean : Clean t base) (e : mid ≡ base + weightOf a) (d : hi ≡ mid + weightOf b) (room : hi ≤ 64)
+module _ (t t₂ t₃ : List ℕ) (base mid hi f : ℕ) (a b : Rule) (clean : Clean t base) (e : mid ≡ base + weightOf a) (d : hi ≡ mid + weightOf b) (room : hi ≤ tableStates)
     (s : Beside t t₂ base a b) (fa : FinalsAt f base a) where
   pub then-built : Put t₂ t₃ base mid mid hi (linked t₂ mid f) → Built t t₃ base (two Then a b)
   then-built put = then-block t t₂ t₃ base f a b clean (omega arith) s fa (rw (d, e) at put)

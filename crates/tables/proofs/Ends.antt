@@ -22,6 +22,7 @@ use Rattle.tables.proofs.Language.{size-weight}
 use Rattle.tables.proofs.Places.{final-at}
 use Rattle.rules.proofs.Weighing.{weight-pos}
 use Rattle.tables.proofs.Serving.{final-inside}
+use Rattle.tables.specs.Table.{tableStates}
 
 -- a set with k added
 has-insert : (w k q : ℕ) → Has (insert w k) q ↔ (Has w q ⊎ (q ≡ k))
@@ -53,7 +54,7 @@ letter-finals base f = record { ends = λ q l. (λ t. UpF.up 1 (has-only (base +
     out q (UpF.up j e d) = omega arith
 
 -- `;`: b's finals, and a's too where b's first state is final
-module _ (base mid fa fb : ℕ) (a b : Rule) (e : mid ≡ base + weightOf a) (room : mid < 64) (ha : FinalsAt fa base a) (hb : FinalsAt fb mid b) where
+module _ (base mid fa fb : ℕ) (a b : Rule) (e : mid ≡ base + weightOf a) (room : mid < tableStates) (ha : FinalsAt fa base a) (hb : FinalsAt fb mid b) where
   b-first : T (bit fb mid) ↔ auto b .final 0
   b-first = final-at fb mid b hb mid 0 (omega arith) room
 
@@ -73,18 +74,18 @@ module _ (base mid fa fb : ℕ) (a b : Rule) (e : mid ≡ base + weightOf a) (ro
   pub then-finals-on : bit fb mid ≡ true → FinalsAt (bitOr fa fb) base (two Then a b)
   then-finals-on on = record { ends = λ q l. (λ t. out q l (has-or fa fb q .0 t), λ u. has-or fa fb q .1 (back q l (then-parts q u))) }
     where
-      out : (q : ℕ) → q < 64 → Has fa q ⊎ Has fb q → UpF base (auto (two Then a b) .final) q
+      out : (q : ℕ) → q < tableStates → Has fa q ⊎ Has fb q → UpF base (auto (two Then a b) .final) q
       out q l (inl t) = from-a q (b-first .0 (true-T on)) (ha .ends q l .0 t)
       out q l (inr t) = from-b q (hb .ends q l .0 t)
 
-      back : (q : ℕ) → q < 64 → (auto b .final 0 × UpF base (auto a .final) q) ⊎ UpF mid (auto b .final) q → Has fa q ⊎ Has fb q
+      back : (q : ℕ) → q < tableStates → (auto b .final 0 × UpF base (auto a .final) q) ⊎ UpF mid (auto b .final) q → Has fa q ⊎ Has fb q
       back q l (inl u) = inl (ha .ends q l .1 (u .1))
       back q l (inr u) = inr (hb .ends q l .1 u)
 
   pub then-finals-off : bit fb mid ≡ false → FinalsAt fb base (two Then a b)
   then-finals-off off = record { ends = λ q l. (λ t. from-b q (hb .ends q l .0 t), λ u. back q l (then-parts q u)) }
     where
-      back : (q : ℕ) → q < 64 → (auto b .final 0 × UpF base (auto a .final) q) ⊎ UpF mid (auto b .final) q → Has fb q
+      back : (q : ℕ) → q < tableStates → (auto b .final 0 × UpF base (auto a .final) q) ⊎ UpF mid (auto b .final) q → Has fb q
       back q l (inl u) = absurd (false-no off (b-first .1 (u .0)))
       back q l (inr u) = hb .ends q l .1 u
 
@@ -100,7 +101,7 @@ overlap-finals base mid f a b e h = record { ends = λ q l. (λ t. out q (h .end
     back q (UpF.up j d (UpF.up i c f)) = UpF.up i (omega (arith, size-weight a)) f
 
 -- `|`: both operands' finals, and the new state where a first state is final
-module _ (base mid fa fb : ℕ) (a b : Rule) (e : mid ≡ base + 1 + weightOf a) (room : mid < 64) (ha : FinalsAt fa (base + 1) a) (hb : FinalsAt fb mid b) where
+module _ (base mid fa fb : ℕ) (a b : Rule) (e : mid ≡ base + 1 + weightOf a) (room : mid < tableStates) (ha : FinalsAt fa (base + 1) a) (hb : FinalsAt fb mid b) where
   a-0 : T (bit fa (base + 1)) ↔ auto a .final 0
   a-0 = final-at fa (base + 1) a ha (base + 1) 0 (omega arith) (omega arith)
 
@@ -126,7 +127,7 @@ module _ (base mid fa fb : ℕ) (a b : Rule) (e : mid ≡ base + 1 + weightOf a)
   either-parts q (UpF.up j d (EitherFinal.b's (UpF.up i c f))) = inr (inl (UpF.up i (omega (arith, size-weight a)) f))
   either-parts q (UpF.up j d (EitherFinal.new c f)) = inr (inr (omega arith, f))
 
-  both-sets : (q : ℕ) → q < 64 → Has (bitOr fa fb) q → UpF base (auto (two Either a b) .final) q
+  both-sets : (q : ℕ) → q < tableStates → Has (bitOr fa fb) q → UpF base (auto (two Either a b) .final) q
   both-sets q l t = go (has-or fa fb q .0 t)
     where
       go : Has fa q ⊎ Has fb q → UpF base (auto (two Either a b) .final) q
@@ -136,11 +137,11 @@ module _ (base mid fa fb : ℕ) (a b : Rule) (e : mid ≡ base + 1 + weightOf a)
   pub either-finals-on : (bit fa (base + 1) ≡ true) ⊎ (bit fb mid ≡ true) → FinalsAt (insert (bitOr fa fb) base) base (two Either a b)
   either-finals-on on = record { ends = λ q l. (λ t. out q l (has-insert (bitOr fa fb) base q .0 t), λ u. has-insert (bitOr fa fb) base q .1 (back q l (either-parts q u))) }
     where
-      out : (q : ℕ) → q < 64 → Has (bitOr fa fb) q ⊎ (q ≡ base) → UpF base (auto (two Either a b) .final) q
+      out : (q : ℕ) → q < tableStates → Has (bitOr fa fb) q ⊎ (q ≡ base) → UpF base (auto (two Either a b) .final) q
       out q l (inl t) = both-sets q l t
       out q l (inr d) = of-new q d (⊎-map (λ h. a-0 .0 (true-T h)) (λ h. b-0 .0 (true-T h)) on)
 
-      back : (q : ℕ) → q < 64 → UpF (base + 1) (auto a .final) q ⊎ UpF mid (auto b .final) q ⊎ ((q ≡ base) × (auto a .final 0 ⊎ auto b .final 0)) → Has (bitOr fa fb) q ⊎ (q ≡ base)
+      back : (q : ℕ) → q < tableStates → UpF (base + 1) (auto a .final) q ⊎ UpF mid (auto b .final) q ⊎ ((q ≡ base) × (auto a .final 0 ⊎ auto b .final 0)) → Has (bitOr fa fb) q ⊎ (q ≡ base)
       back q l (inl u) = inl (has-or fa fb q .1 (inl (ha .ends q l .1 u)))
       back q l (inr (inl u)) = inl (has-or fa fb q .1 (inr (hb .ends q l .1 u)))
       back q l (inr (inr u)) = inr (u .0)
@@ -152,16 +153,16 @@ module _ (base mid fa fb : ℕ) (a b : Rule) (e : mid ≡ base + 1 + weightOf a)
       none (inl f) = false-no na (a-0 .1 f)
       none (inr f) = false-no nb (b-0 .1 f)
 
-      back : (q : ℕ) → q < 64 → UpF (base + 1) (auto a .final) q ⊎ UpF mid (auto b .final) q ⊎ ((q ≡ base) × (auto a .final 0 ⊎ auto b .final 0)) → Has (bitOr fa fb) q
+      back : (q : ℕ) → q < tableStates → UpF (base + 1) (auto a .final) q ⊎ UpF mid (auto b .final) q ⊎ ((q ≡ base) × (auto a .final 0 ⊎ auto b .final 0)) → Has (bitOr fa fb) q
       back q l (inl u) = has-or fa fb q .1 (inl (ha .ends q l .1 u))
       back q l (inr (inl u)) = has-or fa fb q .1 (inr (hb .ends q l .1 u))
       back q l (inr (inr u)) = absurd (none (u .1))
 
 -- `&&`: the pairs of finals; the operands' sets may stand at any base
-module _ (base c d m n f fa fb : ℕ) (a b : Rule) (em : m ≡ weightOf a) (en : n ≡ weightOf b) (ca : c + weightOf a ≤ 64) (db : d + weightOf b ≤ 64)
+module _ (base c d m n f fa fb : ℕ) (a b : Rule) (em : m ≡ weightOf a) (en : n ≡ weightOf b) (ca : c + weightOf a ≤ tableStates) (db : d + weightOf b ≤ tableStates)
     (ha : FinalsAt fa c a) (hb : FinalsAt fb d b)
     (inside : (q : ℕ) → base ≤ q → q < base + m * n → bit f q ≡ bit fa (c + (q - base) / n) && bit fb (d + (q - base) % n))
-    (outside : (q : ℕ) → q < 64 → (q < base) ⊎ (base + m * n ≤ q) → bit f q ≡ false) where
+    (outside : (q : ℕ) → q < tableStates → (q < base) ⊎ (base + m * n ≤ q) → bit f q ≡ false) where
   pairs : (q : ℕ) → base ≤ q → q < base + m * n → Has f q ↔ (auto a .final ((q - base) / n) × auto b .final ((q - base) % n))
   pairs q h l =
       let n0 : 0 < n = omega (arith, weight-pos b) in
@@ -201,7 +202,7 @@ module _ (base c d m n f fa fb : ℕ) (a b : Rule) (em : m ≡ weightOf a) (en :
   pub both-finals : FinalsAt f base (two Both a b)
   both-finals = record { ends = λ q l. (λ t. out q l (lt-or-ge q base) (lt-or-ge q (base + m * n)) t, λ u. let z = pair-in q u in pairs q (z .low) (z .high) .1 (z .first, z .second)) }
     where
-      out : (q : ℕ) → q < 64 → (q < base) ⊎ (base ≤ q) → (q < base + m * n) ⊎ (base + m * n ≤ q) → Has f q → UpF base (auto (two Both a b) .final) q
+      out : (q : ℕ) → q < tableStates → (q < base) ⊎ (base ≤ q) → (q < base + m * n) ⊎ (base + m * n ≤ q) → Has f q → UpF base (auto (two Both a b) .final) q
       out q l (inl h) k t = absurd (false-no (outside q l (inl h)) t)
       out q l (inr h) (inr k) t = absurd (false-no (outside q l (inr k)) t)
       out q l (inr h) (inl k) t = let z = pairs q h k .0 t in pair-out q h (z .0) (z .1)
@@ -218,11 +219,11 @@ star-finals base f a h = record { ends = λ q l. (λ t. out q l (has-insert f ba
     old : (q : ℕ) → UpF base (auto a .final) q → UpF base (λ j. auto a .final j ⊎ (j ≡ 0)) q
     old q (UpF.up j e z) = UpF.up j e (inl z)
 
-    out : (q : ℕ) → q < 64 → Has f q ⊎ (q ≡ base) → UpF base (λ j. auto a .final j ⊎ (j ≡ 0)) q
+    out : (q : ℕ) → q < tableStates → Has f q ⊎ (q ≡ base) → UpF base (λ j. auto a .final j ⊎ (j ≡ 0)) q
     out q l (inl t) = old q (h .ends q l .0 t)
     out q l (inr e) = UpF.up 0 (omega arith) (inr refl)
 
-    back : (q : ℕ) → q < 64 → UpF base (λ j. auto a .final j ⊎ (j ≡ 0)) q → Has f q ⊎ (q ≡ base)
+    back : (q : ℕ) → q < tableStates → UpF base (λ j. auto a .final j ⊎ (j ≡ 0)) q → Has f q ⊎ (q ≡ base)
     back q l (UpF.up j e (inl z)) = inl (h .ends q l .1 (UpF.up j e z))
     back q l (UpF.up j e (inr z)) = inr (omega arith)
 

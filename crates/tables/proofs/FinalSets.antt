@@ -18,23 +18,24 @@ use Rattle.bits.proofs.Truths.{false-no}
 use Rattle.rules.proofs.Weighing.{weight-pos}
 use Rattle.tables.proofs.Places.{final-at}
 use Rattle.tables.proofs.Ends.{empty-finals, letter-finals, star-finals, both-finals}
+use Rattle.tables.specs.Table.{tableStates}
 
 -- ---- moving up
 
-module _ (f k : ℕ) (small : k < 64) where
-  raised-bit : (j : ℕ) → k + j < 64 → bit ((f * 2 ^ k) % 2 ^ 64) (k + j) ≡ bit f j
+module _ (f k : ℕ) (small : k < tableStates) where
+  raised-bit : (j : ℕ) → k + j < tableStates → bit ((f * 2 ^ k) % 2 ^ 64) (k + j) ≡ bit f j
   raised-bit j l = bit-mod 64 (f * 2 ^ k) (k + j) l ∙ bit-shl f k j
 
   raised-low : (q : ℕ) → q < k → bit ((f * 2 ^ k) % 2 ^ 64) q ≡ false
   raised-low q l = bit-mod 64 (f * 2 ^ k) q (omega arith) ∙ bit-shl-low f k q l
 
-  out : (q : ℕ) → q < 64 → (q < k) ⊎ (k ≤ q) → T (bit ((f * 2 ^ k) % 2 ^ 64) q) → UpF k (λ j. T (bit f j)) q
+  out : (q : ℕ) → q < tableStates → (q < k) ⊎ (k ≤ q) → T (bit ((f * 2 ^ k) % 2 ^ 64) q) → UpF k (λ j. T (bit f j)) q
   out q l (inl h) t = absurd (false-no (raised-low q h) t)
   out q l (inr h) t =
       let e : q ≡ k + (q - k) = omega arith in
       UpF.up (q - k) e (rw (raised-bit (q - k) (omega arith)) at (rw e at t))
 
-  into : (q : ℕ) → q < 64 → UpF k (λ j. T (bit f j)) q → T (bit ((f * 2 ^ k) % 2 ^ 64) q)
+  into : (q : ℕ) → q < tableStates → UpF k (λ j. T (bit f j)) q → T (bit ((f * 2 ^ k) % 2 ^ 64) q)
   into q l (UpF.up j e t) = rw e (rw (raised-bit j (omega arith)) t)
 
   pub shifted : Raised f k ((f * 2 ^ k) % 2 ^ 64)
@@ -92,7 +93,7 @@ pub pair-not : (a b n q : ℕ) → bit a (q / n) ≡ false → false ≡ pairFin
 unfolding pairFinal
 pair-not a b n q e = sym (rw e)
 
-module _ (fa fb n w : ℕ) (a b : Rule) (en : n ≡ weightOf b) (ew : w ≡ weightOf a * weightOf b) (small : w ≤ 64) (u : FinalsAt fa 0 a) (v : FinalsAt fb 0 b) where
+module _ (fa fb n w : ℕ) (a b : Rule) (en : n ≡ weightOf b) (ew : w ≡ weightOf a * weightOf b) (small : w ≤ tableStates) (u : FinalsAt fa 0 a) (v : FinalsAt fb 0 b) where
   w-is : w ≡ weightOf a * n
   w-is = ew ∙ ap (λ (k : ℕ). weightOf a * k) (sym en)
 
@@ -100,7 +101,7 @@ module _ (fa fb n w : ℕ) (a b : Rule) (en : n ≡ weightOf b) (ew : w ≡ weig
   unfolding pairFinal
   inside q h l = simp (sub-zero, zero-add) (bit-word w (pairFinal fa fb n) q (omega (arith, w-is)))
 
-  outside : (q : ℕ) → q < 64 → (q < 0) ⊎ (0 + weightOf a * n ≤ q) → bit (word w (pairFinal fa fb n)) q ≡ false
+  outside : (q : ℕ) → q < tableStates → (q < 0) ⊎ (0 + weightOf a * n ≤ q) → bit (word w (pairFinal fa fb n)) q ≡ false
   outside q l (inl h) = absurd (omega arith)
   outside q l (inr h) = bit-above w (word w (pairFinal fa fb n)) q (word-lt w (pairFinal fa fb n)) (omega (arith, w-is))
 
@@ -112,6 +113,6 @@ module _ (fa fb n w : ℕ) (a b : Rule) (en : n ≡ weightOf b) (ew : w ≡ weig
       u v inside outside
 
 -- the loop has seen every pair
-pub both-done : (set fa fb n w q : ℕ) (a b : Rule) → n ≡ weightOf b → w ≡ weightOf a * weightOf b → w ≤ 64 → q ≡ w → FinalsAt fa 0 a → FinalsAt fb 0 b
+pub both-done : (set fa fb n w q : ℕ) (a b : Rule) → n ≡ weightOf b → w ≡ weightOf a * weightOf b → w ≤ tableStates → q ≡ w → FinalsAt fa 0 a → FinalsAt fb 0 b
     → set ≡ word q (pairFinal fa fb n) → FinalsAt set 0 (two Both a b)
 both-done set fa fb n w q a b en ew small eq u v e = rw (e, eq) (all-pairs fa fb n w a b en ew small u v)

@@ -6,7 +6,7 @@ use Prim.Native.Nat.{ℕ, _+_, _<_, _≤_}
 use native.Mathlib.Omega.{arith}
 use lib.Bits.{bitOr, or-self}
 use Rattle.bits.specs.Word.{bit}
-use Rattle.tables.specs.Table.{cell}
+use Rattle.tables.specs.Table.{tableStates, cell}
 use Rattle.tables.specs.inner.Cells.{Put, In, linked}
 use Rattle.tables.proofs.Puts.{put-down, dec-in}
 
@@ -32,7 +32,7 @@ unfolding linked
 linked-src t src f q = cond-same (bit f src) _ _ (or-self (cell t src q))
 
 -- a row more
-module _ (t₀ t₁ t₂ : List ℕ) (a b c d src f : ℕ) (l : a ≤ b) (n : d ≤ 64) (x : Put t₀ t₁ a b c d (linked t₀ src f)) where
+module _ (t₀ t₁ t₂ : List ℕ) (a b c d src f : ℕ) (l : a ≤ b) (n : d ≤ tableStates) (x : Put t₀ t₁ a b c d (linked t₀ src f)) where
   src-kept : (q : ℕ) → c ≤ q → q < d → Dec (In a b c d src q) → cell t₁ src q ≡ cell t₀ src q
   src-kept q m k (yes i) = x .new src q i ∙ linked-src t₀ src f q
   src-kept q m k (no o) = x .old src q (omega arith) o

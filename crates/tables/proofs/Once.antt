@@ -14,7 +14,7 @@ use Rattle.tables.specs.declared.Refusal.the-variants.{OfRule, ShortTabl
 use Rattle.tables.specs.declared.TableAnswer.{TableAnswer}
 use Rattle.tables.specs.declared.TableAnswer.the-variants.{Tabled, Refused}
 use Rattle.tables.specs.Refusals.{number, place}
-use Rattle.tables.specs.Table.{tableOf}
+use Rattle.tables.specs.Table.{tableStates, tableEntries, tableOf}
 use Rattle.tables.specs.Promise.{Serves}
 use Rattle.tables.specs.IsTable.{IsTable, Words}
 use Rattle.tables.specs.Beyond.{Beyond}
@@ -24,17 +24,17 @@ use Rattle.tables.proofs.Serving.{one-table, one-finals, serves}
 
 module _ (s t : List ℕ) where
   -- two slices with the rule's table in front and t's entries past it
-  module _ (r : Rule) (f g : ℕ) (u v : List ℕ) (i : IsTable r u f) (j : IsTable r v g) (hu : Words u) (hv : Words v) (p : Beyond 4096 t u) (q : Beyond 4096 t v) where
-    entry : (k : ℕ) → k < 4096 → getD u k 0 ≡ getD v k 0
+  module _ (r : Rule) (f g : ℕ) (u v : List ℕ) (i : IsTable r u f) (j : IsTable r v g) (hu : Words u) (hv : Words v) (p : Beyond tableEntries t u) (q : Beyond tableEntries t v) where
+    entry : (k : ℕ) → k < tableEntries → getD u k 0 ≡ getD v k 0
     entry k l =
-        let z : 64 * (k / 64) + k % 64 ≡ k = omega arith in
-        subst (λ (n : ℕ). getD u n 0 ≡ getD v n 0) z (one-table r u v f g i j hu hv (k / 64) (k % 64) (omega arith) (omega arith))
+        let z : tableStates * (k / tableStates) + k % tableStates ≡ k = omega arith in
+        subst (λ (n : ℕ). getD u n 0 ≡ getD v n 0) z (one-table r u v f g i j hu hv (k / tableStates) (k % tableStates) (omega arith) (omega arith))
 
     same-slice : u ≡ v
-    same-slice = beyond-once 4096 t u v p q entry
+    same-slice = beyond-once tableEntries t u v p q entry
 
   module _ (u v : List ℕ) (hu : Words u) (hv : Words v) where
-    same-table : (r r′ : Rule) (f g : ℕ) → r ≡ r′ → f < 2 ^ 64 → g < 2 ^ 64 → IsTable r u f → IsTable r′ v g → Beyond 4096 t u → Beyond 4096 t v
+    same-table : (r r′ : Rule) (f g : ℕ) → r ≡ r′ → f < 2 ^ 64 → g < 2 ^ 64 → IsTable r u f → IsTable r′ v g → Beyond tableEntries t u → Beyond tableEntries t v
         → (tabled (knownOf r) f ≡ tabled (knownOf r′) g) × (u ≡ v)
     same-table r r′ f g e lf lg i j p q =
         let j′ : IsTable r v g = rw e j in
@@ -75,5 +75,5 @@ one-answer s t u v a b hu hv ra rb =
 
 -- what an accepted rule leaves in the slice is a table that serves it, whether the states beyond its weight are counted or not
 pub right-serves : (s t u : List ℕ) (k : Known) (f : ℕ) → Words u → Right s t u (tabled k f)
-    → (r : Rule) × AcceptedAs s r × (k ≡ knownOf r) × ((n : ℕ) → k .weight ≤ n → n ≤ 64 → Serves (tableOf u n f) r)
+    → (r : Rule) × AcceptedAs s r × (k ≡ knownOf r) × ((n : ℕ) → k .weight ≤ n → n ≤ tableStates → Serves (tableOf u n f) r)
 right-serves s t u k f hu (the-table {r} a l lf i p) = (r, a, refl, λ n light small. serves r u f i n light small hu)

@@ -6,7 +6,7 @@ use Prim.Native.Nat.{ℕ, zero, suc, _+_, _-_, _<_, _≤_}
 use native.Mathlib.Omega.{arith}
 use lib.Bits.{bitOr, bitAnd}
 use Rattle.bits.specs.Word.{bit}
-use Rattle.tables.specs.Table.{cell}
+use Rattle.tables.specs.Table.{tableStates, cell}
 use Rattle.tables.specs.inner.Cells.{Put, overlapped, overlappedBy, chosen}
 use Rattle.tables.proofs.Puts.{put-over, put-down, put-right, put-as, put-keep}
 use borrow.Author.Tests.{lt-ltb, le-ltb}
@@ -37,7 +37,7 @@ one-is t u fs a src f p q l e₁ e₂ e₃ =
     let r : a + (f - a) ≡ f = omega arith in
     rw (s, overlapped-suc, r, e₁, e₂, e₃)
 
-pub overlap-step : (t₀ t₁ t₂ : List ℕ) (fs a b hi f p : ℕ) → a ≤ f → f < b → p < b → hi ≤ 64
+pub overlap-step : (t₀ t₁ t₂ : List ℕ) (fs a b hi f p : ℕ) → a ≤ f → f < b → p < b → hi ≤ tableStates
     → Put t₀ t₁ p (p + 1) b hi (overlapped t₀ fs a b (f - a)) → Put t₁ t₂ p (p + 1) b hi (overlappedBy t₁ fs b f)
     → Put t₀ t₂ p (p + 1) b hi (overlapped t₀ fs a b (f + 1 - a))
 overlap-step t₀ t₁ t₂ fs a b hi f p l m n o x y =
@@ -53,7 +53,7 @@ overlapped-same t u fs a src (suc k) p q e₁ e₂ e₃ =
     let g : cell t p (a + k) ≡ cell u p (a + k) = e₁ (a + k) (omega arith) in
     rw (h, g, e₃)
 
-pub overlap-down : (t₀ t₁ t₂ : List ℕ) (fs a b hi p : ℕ) → a ≤ p → p < b → hi ≤ 64 → b < hi
+pub overlap-down : (t₀ t₁ t₂ : List ℕ) (fs a b hi p : ℕ) → a ≤ p → p < b → hi ≤ tableStates → b < hi
     → Put t₀ t₁ a p b hi (overlapped t₀ fs a b (b - a)) → Put t₁ t₂ p (p + 1) b hi (overlapped t₁ fs a b (b - a))
     → Put t₀ t₂ a (p + 1) b hi (overlapped t₀ fs a b (b - a))
 overlap-down t₀ t₁ t₂ fs a b hi p l m n o x y =
@@ -81,7 +81,7 @@ chosen-high : (t : List ℕ) (base b p q : ℕ) → b ≤ q → chosen t base b 
 unfolding chosen
 chosen-high t base b p q l = rw (le-ltb q b l)
 
-pub choice-both : (t₀ t₁ t₂ : List ℕ) (base b hi : ℕ) → base + 1 ≤ b → b < hi → hi ≤ 64
+pub choice-both : (t₀ t₁ t₂ : List ℕ) (base b hi : ℕ) → base + 1 ≤ b → b < hi → hi ≤ tableStates
     → Put t₀ t₁ base (base + 1) (base + 1) b (λ p q. bitOr (cell t₀ p q) (cell t₀ (base + 1) q))
     → Put t₁ t₂ base (base + 1) b hi (λ p q. bitOr (cell t₁ p q) (cell t₁ b q))
     → Put t₀ t₂ base (base + 1) (base + 1) hi (chosen t₀ base b)

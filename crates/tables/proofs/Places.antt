@@ -9,11 +9,12 @@ use Rattle.bits.specs.Word.{bit}
 use Rattle.bits.proofs.Laws.{lt-or-ge}
 use Rattle.rules.specs.Definition1.{Rule}
 use Rattle.rules.specs.Weight.{weightOf}
-use Rattle.tables.specs.Table.{cell}
+use Rattle.tables.specs.Table.{tableStates, cell}
 use Rattle.tables.specs.Build.{auto, UpF}
 use Rattle.tables.specs.inner.Cells.{In, Clean}
 use Rattle.tables.specs.inner.Block.{Block, FinalsAt, Built, Beside}
 use Rattle.tables.proofs.Labels.{Has, has-none}
+use Rattle.rules.specs.Definition2.{letterCount}
 
 -- a state of two operands is one of the first's, or one of the second's moved up
 pub split : (p m n : ℕ) → p < m + n → (p < m) ⊎ ((i : ℕ) × (p ≡ m + i) × (i < n))
@@ -38,7 +39,7 @@ drop-none {S} v x e = (out, inr)
     out (inl h) = absurd (has-none x (rw e at h))
     out (inr s) = s
 
-pub block-at : (t : List ℕ) (base : ℕ) (r : Rule) → Block t base r → (P Q p q x : ℕ) → P ≡ base + p → Q ≡ base + q → p < weightOf r → q < weightOf r → x < 64
+pub block-at : (t : List ℕ) (base : ℕ) (r : Rule) → Block t base r → (P Q p q x : ℕ) → P ≡ base + p → Q ≡ base + q → p < weightOf r → q < weightOf r → x < letterCount
     → Has (cell t P Q) x ↔ auto r .step p x q
 block-at t base r b P Q p q x e d hp hq hx = rw (e, d) (b .label p q x hp hq hx)
 
@@ -51,11 +52,11 @@ drop-sum {P} k j q e = (out, λ s. (j, e, s))
 up-out : (F : ℕ → Type 0) (k p q : ℕ) → q ≡ k + p → UpF k F q → F p
 up-out F k p q e (UpF.up j d f) = let z : j ≡ p = omega arith in rw z at f
 
-pub final-at : (f base : ℕ) (r : Rule) → FinalsAt f base r → (P p : ℕ) → P ≡ base + p → P < 64 → T (bit f P) ↔ auto r .final p
+pub final-at : (f base : ℕ) (r : Rule) → FinalsAt f base r → (P p : ℕ) → P ≡ base + p → P < tableStates → T (bit f P) ↔ auto r .final p
 final-at f base r h P p e l = (λ t. up-out (auto r .final) base p P e (h .ends P l .0 t), λ t. h .ends P l .1 (UpF.up p e t))
 
 -- a place outside both blocks
-pub blank : (t t₂ : List ℕ) (base c : ℕ) (a b : Rule) → Clean t base → Beside t t₂ c a b → (p q : ℕ) → base ≤ p → p < 64 → base ≤ q → q < 64
+pub blank : (t t₂ : List ℕ) (base c : ℕ) (a b : Rule) → Clean t base → Beside t t₂ c a b → (p q : ℕ) → base ≤ p → p < tableStates → base ≤ q → q < tableStates
     → (In c (c + weightOf a) c (c + weightOf a) p q → ⊥)
     → (In (c + weightOf a) (c + weightOf a + weightOf b) (c + weightOf a) (c + weightOf a + weightOf b) p q → ⊥) → cell t₂ p q ≡ 0
 blank t t₂ base c a b clean s p q hp lp hq lq u v = s .others p q lq u v ∙ clean .none p q hp lp hq lq
@@ -65,8 +66,8 @@ pub built-at : (t t′ : List ℕ) (c c′ : ℕ) (r : Rule) → c ≡ c′ → 
 built-at t t′ c c′ r e b = rw e at b
 
 -- one block after the other
-module _ (t t₁ t₂ : List ℕ) (c : ℕ) (a b : Rule) (room : c + weightOf a ≤ 64) (ba : Built t t₁ c a) (bb : Built t₁ t₂ (c + weightOf a) b) where
-  a-stays : (p q x : ℕ) → p < weightOf a → q < weightOf a → x < 64 → Has (cell t₂ (c + p) (c + q)) x ↔ auto a .step p x q
+module _ (t t₁ t₂ : List ℕ) (c : ℕ) (a b : Rule) (room : c + weightOf a ≤ tableStates) (ba : Built t t₁ c a) (bb : Built t₁ t₂ (c + weightOf a) b) where
+  a-stays : (p q x : ℕ) → p < weightOf a → q < weightOf a → x < letterCount → Has (cell t₂ (c + p) (c + q)) x ↔ auto a .step p x q
   a-stays p q x hp hq hx =
       by-cell (cell t₂ (c + p) (c + q)) (cell t₁ (c + p) (c + q)) x (bb .others (c + p) (c + q) (omega arith) (λ i. omega arith)) (ba .block .label p q x hp hq hx)
 

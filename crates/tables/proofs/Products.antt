@@ -11,7 +11,7 @@ use Rattle.rules.specs.Definition1.{Rule, two}
 use Rattle.rules.specs.Weight.{weightOf}
 use Rattle.tables.specs.declared.shape.Shape.{Shape}
 use Rattle.tables.specs.declared.fill.Place.the-variants.{Nowhere, From}
-use Rattle.tables.specs.Table.{cell}
+use Rattle.tables.specs.Table.{tableStates, cell}
 use Rattle.tables.specs.Build.{auto, BothStep}
 use Rattle.tables.specs.inner.Cells.{Put, Clean, moved, paired}
 use Rattle.tables.specs.inner.Block.{Block, Built}
@@ -23,6 +23,7 @@ use Rattle.rules.proofs.Weighing.{weight-pos}
 use Rattle.tables.proofs.Serving.{step-inside}
 use Rattle.tables.proofs.Places.{by-cell, by-none, block-at, built-over}
 use Rattle.tables.proofs.Pairing.{moved-block}
+use Rattle.rules.specs.Definition2.{letterCount}
 
 both-step-at : (a b : Rule) (p q i j k l x : ℕ) → p ≡ i * weightOf b + j → q ≡ k * weightOf b + l → j < weightOf b → l < weightOf b
     → auto (two Both a b) .step p x q ↔ (auto a .step i x k × auto b .step j x l)
@@ -41,7 +42,7 @@ paired-at t base n second P Q p q x d e =
 -- u is a copy, with a at 0 and b at second
 module _ (u t t₁ : List ℕ) (base second : ℕ) (a b : Rule) (ba : Block u 0 a) (bb : Block u second b)
     (put : Put t t₁ base (base + weightOf a * weightOf b) base (base + weightOf a * weightOf b) (paired u base (weightOf b) second)) where
-  both-label-at : (p q x : ℕ) → p < weightOf a * weightOf b → q < weightOf a * weightOf b → x < 64
+  both-label-at : (p q x : ℕ) → p < weightOf a * weightOf b → q < weightOf a * weightOf b → x < letterCount
       → Has (cell t₁ (base + p) (base + q)) x ↔ auto (two Both a b) .step p x q
   both-label-at p q x hp hq hx =
       let n : 0 < weightOf b = omega (arith, weight-pos b) in
@@ -69,7 +70,7 @@ module _ (a b : Rule) (single : (weightOf a ≡ 1) ⊎ (weightOf b ≡ 1)) where
       go (inl h) = one-none a i x k h s
       go (inr h) = one-none b j x l h u
 
-  both-single : (t : List ℕ) (base : ℕ) → Clean t base → base + weightOf (two Both a b) ≤ 64 → Built t t base (two Both a b)
+  both-single : (t : List ℕ) (base : ℕ) → Clean t base → base + weightOf (two Both a b) ≤ tableStates → Built t t base (two Both a b)
   both-single t base clean room = record {
     block = record { label = λ p q x hp hq hx. by-none (cell t (base + p) (base + q)) x (clean .none (base + p) (base + q) (omega arith) (omega arith) (omega arith) (omega arith)) (both-none p x q) };
     others = λ p q h out. refl;
@@ -98,7 +99,7 @@ twice-sum (suc (suc m)) n h k = omega (arith, suc-mul (suc m) n, suc-mul m n, mu
     mul-two m n k = rw (mul-comm m 2, mul-comm m n) (mul-le-mul-right m k)
 
 -- where `&&` wants its operands
-pub none-placed : (base m n : ℕ) → (m < 2) ⊎ (n < 2) → 0 < m → 0 < n → base + m * n ≤ 64 → Placed Both base m n Nowhere
+pub none-placed : (base m n : ℕ) → (m < 2) ⊎ (n < 2) → 0 < m → 0 < n → base + m * n ≤ tableStates → Placed Both base m n Nowhere
 none-placed base m n few h k room = nowhere (λ t x y clean em en. both-single x y (go x y few em en) t base clean (rw (em, en) at room))
   where
     go : (x y : Rule) → (m < 2) ⊎ (n < 2) → m ≡ weightOf x → n ≡ weightOf y → (weightOf x ≡ 1) ⊎ (weightOf y ≡ 1)

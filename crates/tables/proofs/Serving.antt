@@ -11,13 +11,14 @@ use Rattle.rules.specs.Definition1.{Rule}
 use Rattle.rules.specs.Weight.{weightOf}
 use Rattle.rules.proofs.Weighing.{weight-pos}
 use Rattle.tables.specs.Build.{auto}
-use Rattle.tables.specs.Table.{Table, cell, tableOf, Goes}
+use Rattle.tables.specs.Table.{tableStates, Table, cell, tableOf, Goes}
 use Rattle.tables.specs.IsTable.{IsTable, Words}
 use Rattle.tables.specs.Promise.{Letters, Serves}
 use Rattle.bits.proofs.Truths.{same-truth, no-false, false-no}
 use Rattle.tables.proofs.TableOf.{edge-out, edge-in, final-out, final-in}
 use Rattle.tables.proofs.Lang.{Acc, Edge}
 use Rattle.tables.proofs.Language.{good, sound, complete, size-weight}
+use Rattle.rules.specs.Definition2.{letterCount}
 
 -- a step of the rule's automaton stays inside the weight and does not enter 0; a final state is inside it
 pub step-inside : (r : Rule) (p x q : ℕ) → auto r .step p x q → Edge (weightOf r) p q
@@ -28,7 +29,7 @@ final-inside r q f = omega (arith, good r .fin q f, size-weight r)
 
 module _ (r : Rule) (t : List ℕ) (f : ℕ) (is : IsTable r t f) where
   -- outside the rule's states, and into state 0, there is no label
-  no-label : (p q x : ℕ) → p < 64 → q < 64 → x < 64 → (weightOf r ≤ p) ⊎ (weightOf r ≤ q) ⊎ (q ≡ 0) → T (bit (cell t p q) x) → ⊥
+  no-label : (p q x : ℕ) → p < tableStates → q < tableStates → x < letterCount → (weightOf r ≤ p) ⊎ (weightOf r ≤ q) ⊎ (q ≡ 0) → T (bit (cell t p q) x) → ⊥
   no-label p q x hp hq hx o s = off o (step-inside r p x q (is .label p q x hp hq hx .0 s))
     where
       off : (weightOf r ≤ p) ⊎ (weightOf r ≤ q) ⊎ (q ≡ 0) → Edge (weightOf r) p q → ⊥
@@ -36,23 +37,23 @@ module _ (r : Rule) (t : List ℕ) (f : ℕ) (is : IsTable r t f) where
       off (inr (inl h)) e = omega arith
       off (inr (inr h)) e = omega arith
 
-  pub outside : Words t → (p q : ℕ) → p < 64 → q < 64 → (weightOf r ≤ p) ⊎ (weightOf r ≤ q) ⊎ (q ≡ 0) → cell t p q ≡ 0
-  outside words p q hp hq o = bit-none 64 (cell t p q) (words (64 * p + q)) (λ x hx. no-false (bit (cell t p q) x) (no-label p q x hp hq hx o))
+  pub outside : Words t → (p q : ℕ) → p < tableStates → q < tableStates → (weightOf r ≤ p) ⊎ (weightOf r ≤ q) ⊎ (q ≡ 0) → cell t p q ≡ 0
+  outside words p q hp hq o = bit-none letterCount (cell t p q) (words (tableStates * p + q)) (λ x hx. no-false (bit (cell t p q) x) (no-label p q x hp hq hx o))
 
 -- two tables of one rule agree in each of the 4,096 entries, and so do two sets of finals
 module _ (r : Rule) (t u : List ℕ) (f g : ℕ) (is : IsTable r t f) (js : IsTable r u g) where
-  pub one-table : Words t → Words u → (p q : ℕ) → p < 64 → q < 64 → cell t p q ≡ cell u p q
+  pub one-table : Words t → Words u → (p q : ℕ) → p < tableStates → q < tableStates → cell t p q ≡ cell u p q
   one-table ht hu p q hp hq =
-      ext 64 (cell t p q) (cell u p q) (ht (64 * p + q)) (hu (64 * p + q))
+      ext letterCount (cell t p q) (cell u p q) (ht (tableStates * p + q)) (hu (tableStates * p + q))
       (λ x h. same-truth (bit (cell t p q) x) (bit (cell u p q) x)
       (λ a. js .label p q x hp hq h .1 (is .label p q x hp hq h .0 a)) (λ a. is .label p q x hp hq h .1 (js .label p q x hp hq h .0 a)))
 
   pub one-finals : f < 2 ^ 64 → g < 2 ^ 64 → f ≡ g
   one-finals hf hg =
-      ext 64 f g hf hg (λ q h. same-truth (bit f q) (bit g q) (λ a. js .ends q h .1 (is .ends q h .0 a)) (λ a. is .ends q h .1 (js .ends q h .0 a)))
+      ext tableStates f g hf hg (λ q h. same-truth (bit f q) (bit g q) (λ a. js .ends q h .1 (is .ends q h .0 a)) (λ a. is .ends q h .1 (js .ends q h .0 a)))
 
 -- as many states as the rule weighs, or more up to 64, of which the others have no label
-module _ (r : Rule) (t : List ℕ) (f : ℕ) (is : IsTable r t f) (n : ℕ) (light : weightOf r ≤ n) (small : n ≤ 64) where
+module _ (r : Rule) (t : List ℕ) (f : ℕ) (is : IsTable r t f) (n : ℕ) (light : weightOf r ≤ n) (small : n ≤ tableStates) where
   abbrev A : Table
   A = tableOf t n f
 
@@ -70,11 +71,11 @@ module _ (r : Rule) (t : List ℕ) (f : ℕ) (is : IsTable r t f) (n : ℕ) (lig
       (g .0, (m, edge-in t n f p x m (omega arith) (omega arith) (is .label p m x (omega arith) (omega arith) (h .0) .1 s), g .1), g .2)
 
   unentered : Words t → (p x : ℕ) → T (A .edge p x 0) → ⊥
-  unentered words p x s = let h = edge-out t n f p x 0 s in go (lt-or-ge x 64) (h .0) (h .2)
+  unentered words p x s = let h = edge-out t n f p x 0 s in go (lt-or-ge x letterCount) (h .0) (h .2)
     where
-      go : (x < 64) ⊎ (64 ≤ x) → p < n → T (bit (cell t p 0) x) → ⊥
+      go : (x < letterCount) ⊎ (letterCount ≤ x) → p < n → T (bit (cell t p 0) x) → ⊥
       go (inl l) k b = no-label r t f is p 0 x (omega arith) (omega arith) l (inr (inr refl)) b
-      go (inr l) k b = false-no (bit-above 64 (cell t p 0) x (words (64 * p + 0)) l) b
+      go (inr l) k b = false-no (bit-above letterCount (cell t p 0) x (words (tableStates * p + 0)) l) b
 
   -- the table of a rule that weighs at most 64 serves it
   pub serves : Words t → Serves (tableOf t n f) r

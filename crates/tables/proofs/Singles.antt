@@ -9,8 +9,8 @@ use borrow.Author.Tests.{lt-ltb}
 use Rattle.bits.specs.Word.{bit, word, all}
 use Rattle.bits.proofs.Laws.{lt-or-ge, bit-word, bit-all}
 use Rattle.rules.specs.Definition1.{Formula, yea, letter, empty}
-use Rattle.rules.specs.Definition2.{holds}
-use Rattle.tables.specs.Table.{cell}
+use Rattle.rules.specs.Definition2.{letterCount, holds}
+use Rattle.tables.specs.Table.{tableStates, cell}
 use Rattle.tables.specs.Build.{auto, LetterStep, the-label, letterA, PlusStep}
 use Rattle.tables.specs.inner.Cells.{In, Put, Clean}
 use Rattle.tables.specs.inner.Block.{Built, anyRule}
@@ -18,19 +18,19 @@ use Rattle.bits.proofs.Truths.{true-T}
 use Rattle.tables.proofs.Labels.{Has}
 use Rattle.tables.proofs.Places.{by-cell, by-none}
 
-pub empty-built : (t : List ℕ) (base : ℕ) → Clean t base → base + 1 ≤ 64 → Built t t base empty
+pub empty-built : (t : List ℕ) (base : ℕ) → Clean t base → base + 1 ≤ tableStates → Built t t base empty
 unfolding auto
 empty-built t base clean room = record {
   block = record { label = λ p q x hp hq hx. by-none (cell t (base + p) (base + q)) x (clean .none (base + p) (base + q) (omega arith) (omega arith) (omega arith) (omega arith)) (λ s. s) };
   others = λ p q h out. refl;
 }
 
-module _ (t t₁ : List ℕ) (base w : ℕ) (f : Formula) (clean : Clean t base) (room : base + 2 ≤ 64) (is : w ≡ word 64 (holds f))
+module _ (t t₁ : List ℕ) (base w : ℕ) (f : Formula) (clean : Clean t base) (room : base + 2 ≤ tableStates) (is : w ≡ word letterCount (holds f))
     (put : Put t t₁ base (base + 1) (base + 1) (base + 2) (λ p q. w)) where
-  letter-word : (x : ℕ) → x < 64 → Has w x ↔ T (holds f x)
-  letter-word x h = let e : bit w x ≡ holds f x = ap (λ (v : ℕ). bit v x) is ∙ bit-word 64 (holds f) x h in rw e (λ t. t, λ t. t)
+  letter-word : (x : ℕ) → x < letterCount → Has w x ↔ T (holds f x)
+  letter-word x h = let e : bit w x ≡ holds f x = ap (λ (v : ℕ). bit v x) is ∙ bit-word letterCount (holds f) x h in rw e (λ t. t, λ t. t)
 
-  letter-label : (p q x : ℕ) → p < 2 → q < 2 → x < 64 → Has (cell t₁ (base + p) (base + q)) x ↔ LetterStep (holds f) p x q
+  letter-label : (p q x : ℕ) → p < 2 → q < 2 → x < letterCount → Has (cell t₁ (base + p) (base + q)) x ↔ LetterStep (holds f) p x q
   letter-label p q x hp hq hx = go (lt-or-ge 0 p) (lt-or-ge 0 q)
     where
       blank : (In base (base + 1) (base + 1) (base + 2) (base + p) (base + q) → ⊥) → cell t₁ (base + p) (base + q) ≡ 0
@@ -69,14 +69,14 @@ any-in p x q l e = go (lt-or-ge 0 p)
     go (inl h) = PlusStep.anew (omega arith) (the-label refl e tt)
     go (inr h) = PlusStep.a's (the-label (omega arith) e tt)
 
-module _ (t t₁ : List ℕ) (base : ℕ) (clean : Clean t base) (room : base + 2 ≤ 64) (put : Put t t₁ base (base + 2) (base + 1) (base + 2) (λ p q. all 64)) where
-  any-label : (p q x : ℕ) → p < 2 → q < 2 → x < 64 → Has (cell t₁ (base + p) (base + q)) x ↔ PlusStep (letterA (holds yea)) p x q
+module _ (t t₁ : List ℕ) (base : ℕ) (clean : Clean t base) (room : base + 2 ≤ tableStates) (put : Put t t₁ base (base + 2) (base + 1) (base + 2) (λ p q. all letterCount)) where
+  any-label : (p q x : ℕ) → p < 2 → q < 2 → x < letterCount → Has (cell t₁ (base + p) (base + q)) x ↔ PlusStep (letterA (holds yea)) p x q
   any-label p q x hp hq hx = go (lt-or-ge 0 q)
     where
       go : (0 < q) ⊎ (q ≤ 0) → Has (cell t₁ (base + p) (base + q)) x ↔ PlusStep (letterA (holds yea)) p x q
       go (inl k) =
-          by-cell (cell t₁ (base + p) (base + q)) (all 64) x (put .new (base + p) (base + q) (omega arith))
-          (λ h. any-in p x q hp (omega arith), λ s. true-T (bit-all 64 x ∙ lt-ltb x 64 hx))
+          by-cell (cell t₁ (base + p) (base + q)) (all letterCount) x (put .new (base + p) (base + q) (omega arith))
+          (λ h. any-in p x q hp (omega arith), λ s. true-T (bit-all letterCount x ∙ lt-ltb x letterCount hx))
       go (inr k) =
           by-none (cell t₁ (base + p) (base + q)) x
           (put .old (base + p) (base + q) (omega arith) (λ i. omega arith) ∙ clean .none (base + p) (base + q) (omega arith) (omega arith) (omega arith) (omega arith))

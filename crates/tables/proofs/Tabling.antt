@@ -22,22 +22,23 @@ use Rattle.tables.specs.inner.Shapes.{Fits, ShapedAs}
 use Rattle.tables.specs.inner.Building.{Ready, BuiltAt}
 use Rattle.tables.specs.Answer.{Right, refused, tabled, rule-refused, short-table, the-table, TableFor}
 use Rattle.tables.proofs.Wholes.{is-table}
+use Rattle.tables.specs.Table.{tableStates, tableEntries}
 
 -- a cleared table is ready
-pub ready-whole : (t t₁ : List ℕ) → 4096 ≤ length t → length t₁ ≡ length t → Put t t₁ 0 64 0 64 (λ p q. 0) → Ready t₁ 0
+pub ready-whole : (t t₁ : List ℕ) → tableEntries ≤ length t → length t₁ ≡ length t → Put t t₁ 0 tableStates 0 tableStates (λ p q. 0) → Ready t₁ 0
 ready-whole t t₁ l d clear = record { long = omega arith; clean = record { none = λ p q h₁ h₂ h₃ h₄. clear .new p q (omega arith) } }
 
 -- an accepted rule has room for its table
 pub fits-whole : (s : List ℕ) (r : Rule) → AcceptedAs s r → Fits s 0 0
 fits-whole s r a = record { rule = r; past = length s; stands = accepted-stands s r a; room = omega (arith, a .light) }
 
-module _ (s t t₁ t₂ : List ℕ) (l : 4096 ≤ length t) (clear : Put t t₁ 0 64 0 64 (λ p q. 0)) where
+module _ (s t t₁ t₂ : List ℕ) (l : tableEntries ≤ length t) (clear : Put t t₁ 0 tableStates 0 tableStates (λ p q. 0)) where
   -- past the table both leave every entry
-  past-at : (r : Rule) → weightOf r ≤ 64 → Built t₁ t₂ 0 r → (k : ℕ) → 4096 ≤ k → getD t₂ k 0 ≡ getD t k 0
+  past-at : (r : Rule) → weightOf r ≤ tableStates → Built t₁ t₂ 0 r → (k : ℕ) → tableEntries ≤ k → getD t₂ k 0 ≡ getD t k 0
   past-at r small b k h =
-      let z : 64 * (k / 64) + k % 64 ≡ k = omega arith in
+      let z : tableStates * (k / tableStates) + k % tableStates ≡ k = omega arith in
       subst (λ (n : ℕ). getD t₂ n 0 ≡ getD t n 0) z
-      (b .others (k / 64) (k % 64) (omega arith) (λ i. omega arith) ∙ clear .old (k / 64) (k % 64) (omega arith) (λ i. omega arith))
+      (b .others (k / tableStates) (k % tableStates) (omega arith) (λ i. omega arith) ∙ clear .old (k / tableStates) (k % tableStates) (omega arith) (λ i. omega arith))
 
   -- what is cleared, filled and measured is the table of every rule that the bytes are accepted as
   pub table-for : length t₁ ≡ length t → length t₂ ≡ length t → BuiltAt s 0 t₁ t₂ 0 → (h : Shape) → ShapedAs s 0 h → h .finals < 2 ^ 64 → TableFor s t t₂ (h .finals)
@@ -59,7 +60,7 @@ module _ (s : List ℕ) (a : RuleAnswer) (q : rules.told a ≡ answer s) where
     pub the-rule : (r : Rule) × AcceptedAs s r × (k ≡ knownOf r)
     the-rule = accepted-rule s k (sym q ∙ ap rules.told e)
 
-    pub right-short : (t : List ℕ) → length t < 4096 → Right s t t (refused shortSlice 0)
+    pub right-short : (t : List ℕ) → length t < tableEntries → Right s t t (refused shortSlice 0)
     right-short t l = short-table (the-rule .1) l refl
 
     pub right-table : {t t′ : List ℕ} {f : ℕ} → TableFor s t t′ f → Right s t t′ (tabled k f)

@@ -7,7 +7,7 @@ use mathlib.Core.List.{List}
 use Rattle.bits.proofs.Laws.{lt-or-ge}
 use Rattle.rules.specs.Definition1.{Rule}
 use Rattle.rules.specs.Weight.{weightOf}
-use Rattle.tables.specs.Table.{cell}
+use Rattle.tables.specs.Table.{tableStates, cell}
 use Rattle.tables.specs.Build.{auto}
 use Rattle.tables.specs.inner.Cells.{In, Clean}
 use Rattle.tables.specs.inner.Block.{FinalsAt, Built}
@@ -15,9 +15,10 @@ use Rattle.tables.specs.IsTable.{IsTable}
 use Rattle.tables.proofs.Labels.{Has}
 use Rattle.tables.proofs.Serving.{step-inside}
 use Rattle.tables.proofs.Places.{by-none, block-at, final-at}
+use Rattle.rules.specs.Definition2.{letterCount}
 
-module _ (t t₁ : List ℕ) (f : ℕ) (r : Rule) (clean : Clean t 0) (small : weightOf r ≤ 64) (built : Built t t₁ 0 r) (ends : FinalsAt f 0 r) where
-  table-label : (p q x : ℕ) → p < 64 → q < 64 → x < 64 → Has (cell t₁ p q) x ↔ auto r .step p x q
+module _ (t t₁ : List ℕ) (f : ℕ) (r : Rule) (clean : Clean t 0) (small : weightOf r ≤ tableStates) (built : Built t t₁ 0 r) (ends : FinalsAt f 0 r) where
+  table-label : (p q x : ℕ) → p < tableStates → q < tableStates → x < letterCount → Has (cell t₁ p q) x ↔ auto r .step p x q
   table-label p q x hp hq hx = go (lt-or-ge p (weightOf r)) (lt-or-ge q (weightOf r))
     where
       off : (In 0 (0 + weightOf r) 0 (0 + weightOf r) p q → ⊥) → Has (cell t₁ p q) x ↔ auto r .step p x q

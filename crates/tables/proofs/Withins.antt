@@ -27,10 +27,12 @@ use Rattle.tables.proofs.Crossings.{then-built, then-first}
 use Rattle.tables.proofs.Choices.{either-built}
 use Rattle.tables.proofs.Products.{both-built}
 use Rattle.tables.proofs.Pairing.{moved-block}
+use Rattle.tables.specs.Table.{tableStates}
+use Rattle.rules.specs.Definition2.{letterCount}
 
 -- {a;true[*]}
-pub padded : (t t₁ t₂ t₃ : List ℕ) (base mid hi f : ℕ) (x : Rule) → Clean t base → mid ≡ base + weightOf x → hi ≡ mid + 2 → hi ≤ 64 → FinalsAt f base x
-    → Built t t₁ base x → Put t₁ t₂ mid (mid + 2) (mid + 1) (mid + 2) (λ p q. all 64) → Put t₂ t₃ base mid mid hi (linked t₂ mid f) → Built t t₃ base (two Then x anyRule)
+pub padded : (t t₁ t₂ t₃ : List ℕ) (base mid hi f : ℕ) (x : Rule) → Clean t base → mid ≡ base + weightOf x → hi ≡ mid + 2 → hi ≤ tableStates → FinalsAt f base x
+    → Built t t₁ base x → Put t₁ t₂ mid (mid + 2) (mid + 1) (mid + 2) (λ p q. all letterCount) → Put t₂ t₃ base mid mid hi (linked t₂ mid f) → Built t t₃ base (two Then x anyRule)
 padded t t₁ t₂ t₃ base mid hi f x c e d l fin b any put =
     let k = any-built t₁ t₂ mid (clean-on t t₁ base mid x c b (omega arith)) (omega arith) any in
     then-built t t₂ t₃ base mid hi f x anyRule c e d l (beside t t₁ t₂ base x anyRule (omega arith) b (rw e at k)) fin put
@@ -59,7 +61,7 @@ side-by-side : (c m n : ℕ) → 0 < m → c + (m + n) ≤ c + m * (n + 2)
 side-by-side c m n h = omega (arith, le-mul-of-pos-right n h, mul-comm n m)
 
 module _ (t₀ t t₁ t₂ t₃ u₀ u₁ u₂ : List ℕ) (base right hi : ℕ) (x y : Rule) (clean : Clean t₀ base) (none : Clean u₀ 0) (s : Beside t₀ t (base + 1) x y)
-    (room : base + (2 * (weightOf x * weightOf y) + 2 * weightOf x + 2 * weightOf y + 1) ≤ 64)
+    (room : base + (2 * (weightOf x * weightOf y) + 2 * weightOf x + 2 * weightOf y + 1) ≤ tableStates)
     (er : right ≡ base + 1 + weightOf x * (weightOf y + 2)) (eh : hi ≡ right + (weightOf x + 2) * weightOf y)
     (bx : Built u₀ u₁ 0 (two Then x anyRule)) (by : Clean u₁ (weightOf x + 2) → Built u₁ u₂ (weightOf x + 2) (two Then y anyRule))
     (left-put : Put t t₁ (base + 1) (base + 1 + weightOf x * (weightOf y + 2)) (base + 1) (base + 1 + weightOf x * (weightOf y + 2)) (paired u₂ (base + 1) (weightOf y + 2) (weightOf x + 2)))
@@ -96,7 +98,7 @@ within-small a b t base room = (room .first-some, room .second-some, omega (arit
     sum-le (suc m) n h k = omega (arith, suc-mul m n, le-mul-of-pos-right m k)
 
 pub zeros : (n : ℕ) → Clean (replicate n 0) 0
-zeros n = record { none = λ p q h₁ h₂ h₃ h₄. ⊎-elim (λ l. getD-replicate n (64 * p + q) 0 0 l) (λ l. List·getD-eq-default (replicate n 0) 0 (omega (arith, length-replicate {A = ℕ} n 0))) (lt-or-ge (64 * p + q) n) }
+zeros n = record { none = λ p q h₁ h₂ h₃ h₄. ⊎-elim (λ l. getD-replicate n (tableStates * p + q) 0 0 l) (λ l. List·getD-eq-default (replicate n 0) 0 (omega (arith, length-replicate {A = ℕ} n 0))) (lt-or-ge (tableStates * p + q) n) }
 
 module _ (a b : Shape) (t t₁ t₂ t₃ u₀ u₁ u₂ : List ℕ) (base : ℕ) where
   abbrev right : ℕ

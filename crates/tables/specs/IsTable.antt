@@ -7,13 +7,13 @@ use lib.ListN.{getD}
 use Rattle.bits.specs.Word.{bit}
 use Rattle.rules.specs.Definition1.{Rule}
 use Rattle.rules.specs.Definition2.{letterCount}
-use Rattle.tables.specs.Table.{cell}
+use Rattle.tables.specs.Table.{tableStates, cell}
 use Rattle.tables.specs.Build.{auto}
 
 -- each label has the letters under which the rule's automaton steps, and the set has its final states
 pub record IsTable (r : Rule) (t : List ℕ) (finals : ℕ) : Type 0 where
-  pub label : (p q x : ℕ) → p < 64 → q < 64 → x < letterCount → T (bit (cell t p q) x) ↔ auto r .step p x q
-  pub ends : (q : ℕ) → q < 64 → T (bit finals q) ↔ auto r .final q
+  pub label : (p q x : ℕ) → p < tableStates → q < tableStates → x < letterCount → T (bit (cell t p q) x) ↔ auto r .step p x q
+  pub ends : (q : ℕ) → q < tableStates → T (bit finals q) ↔ auto r .final q
 
 -- the entries are 64-bit words, as those of every slice of u64 are
 abbrev pub Words : List ℕ → Type 0

@@ -9,14 +9,16 @@ ghost use Rattle.rules.specs.Weight.{weightOf};
 ghost use Rattle.rules.specs.declared.kinds.Pair.the-variants.{Then};
 ghost use Rattle.tables.specs.inner.Block.{FinalsAt, Built, anyRule};
 ghost use Rattle.tables.specs.inner.Cells.{Put, Clean};
+ghost use Rattle.tables.specs.Table.{tableStates};
+ghost use Rattle.rules.specs.Definition2.{letterCount};
 use crate::cells::put;
 use crate::link::link;
 use rules::formulas::LETTER_COUNT;
 
 // The two states at base and base + 1: every letter leads from either to the second.
 pub fn any(t: &mut [u64], base: usize)
-    requires { ⌜ (64 * (base + 2) ≤ length (now t)) × (base + 2 ≤ 64) ⌝ }
-    ensures { λ _. ⌜ Put (now (t .entry)) (now (t .exit)) base (base + 2) (base + 1) (base + 2) (λ p q. all 64) ⌝ }
+    requires { ⌜ (tableStates * (base + 2) ≤ length (now t)) × (base + 2 ≤ tableStates) ⌝ }
+    ensures { λ _. ⌜ Put (now (t .entry)) (now (t .exit)) base (base + 2) (base + 1) (base + 2) (λ p q. all letterCount) ⌝ }
 {
     let every = bits::below(LETTER_COUNT);
     put(t, base, base + 1, every);
@@ -25,7 +27,7 @@ pub fn any(t: &mut [u64], base: usize)
 
 // Behind the block of n states at base, whose finals are given, stands `true[*]`: the two together are {a;true[*]}.
 pub fn pad(t: &mut [u64], base: usize, n: usize, finals: u64)
-    requires { ⌜ (64 * (base + n + 2) ≤ length (now t)) × (base + n + 2 ≤ 64) ⌝ }
+    requires { ⌜ (tableStates * (base + n + 2) ≤ length (now t)) × (base + n + 2 ≤ tableStates) ⌝ }
     ensures { λ _. ⌜ ((t₀ : List ℕ) (x : Rule) → Clean t₀ base → n ≡ weightOf x → FinalsAt finals base x → Built t₀ (now (t .entry)) base x → Built t₀ (now (t .exit)) base (two Then x anyRule)) ⌝ }
 {
     let mid = base + n;

@@ -2,13 +2,13 @@
 ghost use mathlib.Core.Path.{_≡_};
 ghost use Prim.Native.Nat.{_+_, _*_, _<_};
 ghost use lib.ListN.{length};
-ghost use Rattle.tables.specs.Table.{cell};
+ghost use Rattle.tables.specs.Table.{tableStates, cell};
 ghost use Rattle.tables.specs.inner.Cells.{Put};
 use crate::STATES;
 
 // The label from p to q.
 pub fn get(t: &[u64], p: usize, q: usize) -> u64
-    requires { ⌜ (64 * p + q < length (now t)) × (p < 64) × (q < 64) ⌝ }
+    requires { ⌜ (tableStates * p + q < length (now t)) × (p < tableStates) × (q < tableStates) ⌝ }
     ensures { λ r. ⌜ r ≡ cell (now (t .entry)) p q ⌝ }
 {
     t[STATES * p + q]
@@ -16,7 +16,7 @@ pub fn get(t: &[u64], p: usize, q: usize) -> u64
 
 // The label from p to q becomes v.
 pub fn put(t: &mut [u64], p: usize, q: usize, v: u64)
-    requires { ⌜ (64 * p + q < length (now t)) × (p < 64) × (q < 64) ⌝ }
+    requires { ⌜ (tableStates * p + q < length (now t)) × (p < tableStates) × (q < tableStates) ⌝ }
     ensures { λ _. ⌜ Put (now (t .entry)) (now (t .exit)) p (p + 1) q (q + 1) (λ r s. v) ⌝ }
 {
     t[STATES * p + q] = v;

@@ -2,7 +2,7 @@
 ghost use Prim.Native.Nat.{_+_, _<_, _≤_};
 ghost use lib.ListN.{length};
 ghost use Rattle.rules.specs.declared.kinds.Pair.the-variants.{Either};
-ghost use Rattle.tables.specs.Table.{tableEntries};
+ghost use Rattle.tables.specs.Table.{tableStates, tableEntries};
 ghost use Rattle.tables.specs.inner.Cells.{Put, chosen};
 ghost use Rattle.tables.specs.inner.Building.{Room, Joins};
 use crate::link::unite_row;
@@ -10,7 +10,7 @@ use crate::shape::Shape;
 
 // The new state at base gets what leaves the first states of the blocks at base + 1 and at b, which ends at hi.
 pub fn choice(t: &mut [u64], base: usize, b: usize, hi: usize)
-    requires { ⌜ (tableEntries ≤ length (now t)) × (base + 1 < b) × (b < hi) × (hi ≤ 64) ⌝ }
+    requires { ⌜ (tableEntries ≤ length (now t)) × (base + 1 < b) × (b < hi) × (hi ≤ tableStates) ⌝ }
     ensures { λ _. ⌜ Put (now (t .entry)) (now (t .exit)) base (base + 1) (base + 1) hi (chosen (now (t .entry)) base b) ⌝ }
 {
     unite_row(t, base, base + 1, b);

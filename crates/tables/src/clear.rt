@@ -1,13 +1,13 @@
 // Takes the labels out of a square of the table.
 ghost use Prim.Native.Nat.{_+_, _<_, _≤_};
 ghost use lib.ListN.{length};
-ghost use Rattle.tables.specs.Table.{tableEntries};
+ghost use Rattle.tables.specs.Table.{tableStates, tableEntries};
 ghost use Rattle.tables.specs.inner.Cells.{Put};
 use crate::cells::put;
 
 // Row p has no label in the columns lo to hi.
 fn clear_row(t: &mut [u64], p: usize, lo: usize, hi: usize)
-    requires { ⌜ (tableEntries ≤ length (now t)) × (p < 64) × (lo ≤ hi) × (hi ≤ 64) ⌝ }
+    requires { ⌜ (tableEntries ≤ length (now t)) × (p < tableStates) × (lo ≤ hi) × (hi ≤ tableStates) ⌝ }
     ensures { λ _. ⌜ Put (now (t .entry)) (now (t .exit)) p (p + 1) lo hi (λ r s. 0) ⌝ }
 {
     let mut q = lo;
@@ -19,7 +19,7 @@ fn clear_row(t: &mut [u64], p: usize, lo: usize, hi: usize)
 
 // The states lo to hi have no label among them.
 pub fn clear(t: &mut [u64], lo: usize, hi: usize)
-    requires { ⌜ (tableEntries ≤ length (now t)) × (lo ≤ hi) × (hi ≤ 64) ⌝ }
+    requires { ⌜ (tableEntries ≤ length (now t)) × (lo ≤ hi) × (hi ≤ tableStates) ⌝ }
     ensures { λ _. ⌜ Put (now (t .entry)) (now (t .exit)) lo hi lo hi (λ r s. 0) ⌝ }
 {
     let mut p = lo;

@@ -7,13 +7,14 @@ ghost use Rattle.rules.specs.declared.kinds.Pair.the-variants.{Then, Either, Wi
 ghost use Rattle.rules.specs.Weight.{weightOf};
 ghost use Rattle.tables.specs.inner.Block.{FinalsAt};
 ghost use Rattle.tables.specs.inner.Sets.{Raised, pairFinal};
+ghost use Rattle.tables.specs.Table.{tableStates};
 
 // Both states of `true[*]` are final.
 const ANY_FINALS: u64 = 3;
 
 // The set with each state moved up by k.
 pub fn raise(set: u64, k: usize) -> u64
-    requires { ⌜ k < 64 ⌝ }
+    requires { ⌜ k < tableStates ⌝ }
     ensures { λ r. ⌜ Raised set k r ⌝ }
 {
     set << k
@@ -21,7 +22,7 @@ pub fn raise(set: u64, k: usize) -> u64
 
 // `;`: b's, and a's too if b's state 0 is final.
 pub fn then_finals(a: u64, b: u64, m: usize) -> u64
-    requires { ⌜ m < 64 ⌝ }
+    requires { ⌜ m < tableStates ⌝ }
     ensures { λ r. ⌜ ((x y : Rule) → m ≡ weightOf x → FinalsAt a 0 x → FinalsAt b 0 y → FinalsAt r 0 (two Then x y)) ⌝ }
 {
     let moved = raise(b, m);
@@ -33,7 +34,7 @@ pub fn then_finals(a: u64, b: u64, m: usize) -> u64
 
 // `|`: both, and the new state 0 if either 0 was final.
 pub fn either_finals(a: u64, b: u64, m: usize) -> u64
-    requires { ⌜ 1 + m < 64 ⌝ }
+    requires { ⌜ 1 + m < tableStates ⌝ }
     ensures { λ r. ⌜ ((x y : Rule) → m ≡ weightOf x → FinalsAt a 0 x → FinalsAt b 0 y → FinalsAt r 0 (two Either x y)) ⌝ }
 {
     let first = raise(a, 1);
@@ -49,7 +50,7 @@ pub fn either_finals(a: u64, b: u64, m: usize) -> u64
 
 // Whether both states of the pair q are final.
 fn pair_final(a: u64, b: u64, n: usize, q: usize) -> bool
-    requires { ⌜ (0 < n) × (q < 64) ⌝ }
+    requires { ⌜ (0 < n) × (q < tableStates) ⌝ }
     ensures { λ r. ⌜ r ≡ pairFinal a b n q ⌝ }
 {
     if bits::has(a, q / n) {
@@ -60,7 +61,7 @@ fn pair_final(a: u64, b: u64, n: usize, q: usize) -> bool
 
 // The set of the pairs below q, with q too if both of its states are final.
 fn add_pair(set: u64, a: u64, b: u64, n: usize, q: usize) -> u64
-    requires { ⌜ (0 < n) × (q < 64) ⌝ }
+    requires { ⌜ (0 < n) × (q < tableStates) ⌝ }
     ensures { λ r. ⌜ (set ≡ word q (pairFinal a b n) → r ≡ word (q + 1) (pairFinal a b n)) ⌝ }
 {
     if pair_final(a, b, n, q) {
@@ -71,7 +72,7 @@ fn add_pair(set: u64, a: u64, b: u64, n: usize, q: usize) -> u64
 
 // `&&`: the pairs of finals. w is m * n.
 pub fn both_finals(a: u64, b: u64, n: usize, w: usize) -> u64
-    requires { ⌜ (0 < n) × (w ≤ 64) ⌝ }
+    requires { ⌜ (0 < n) × (w ≤ tableStates) ⌝ }
     ensures { λ r. ⌜ ((x y : Rule) → n ≡ weightOf y → w ≡ weightOf x * weightOf y → FinalsAt a 0 x → FinalsAt b 0 y → FinalsAt r 0 (two Both x y)) ⌝ }
 {
     let mut set: u64 = 0;
@@ -85,7 +86,7 @@ pub fn both_finals(a: u64, b: u64, n: usize, w: usize) -> u64
 
 // `&`, which is {a && {b;true[*]}} | {{a;true[*]} && b}.
 pub fn within_finals(a: u64, b: u64, m: usize, n: usize) -> u64
-    requires { ⌜ (0 < m) × (0 < n) × (2 * (m * n) + 2 * m + 2 * n + 1 ≤ 64) ⌝ }
+    requires { ⌜ (0 < m) × (0 < n) × (2 * (m * n) + 2 * m + 2 * n + 1 ≤ tableStates) ⌝ }
     ensures { λ r. ⌜ ((x y : Rule) → m ≡ weightOf x → n ≡ weightOf y → FinalsAt a 0 x → FinalsAt b 0 y → FinalsAt r 0 (two Within x y)) ⌝ }
 {
     let left = m * (n + 2);

@@ -2,7 +2,7 @@
 ghost use Prim.Native.Nat.{_+_, _*_, _<_, _≤_};
 ghost use lib.ListN.{length};
 ghost use lib.Bits.{bitOr};
-ghost use Rattle.tables.specs.Table.{tableEntries, cell};
+ghost use Rattle.tables.specs.Table.{tableStates, tableEntries, cell};
 ghost use Rattle.rules.specs.declared.kinds.Pair.the-variants.{Then};
 ghost use Rattle.tables.specs.inner.Cells.{Put, linked};
 ghost use Rattle.tables.specs.inner.Building.{Room, Joins, Repeats};
@@ -13,7 +13,7 @@ use crate::shape::Shape;
 
 // Row p also gets what leaves src, the first state of a block that ends at hi.
 pub fn unite_row(t: &mut [u64], p: usize, src: usize, hi: usize)
-    requires { ⌜ (64 * (p + 1) ≤ length (now t)) × (64 * hi ≤ length (now t)) × (p < 64) × (src < hi) × (hi ≤ 64) ⌝ }
+    requires { ⌜ (tableStates * (p + 1) ≤ length (now t)) × (tableStates * hi ≤ length (now t)) × (p < tableStates) × (src < hi) × (hi ≤ tableStates) ⌝ }
     ensures { λ _. ⌜ Put (now (t .entry)) (now (t .exit)) p (p + 1) src hi (λ r s. bitOr (cell (now (t .entry)) r s) (cell (now (t .entry)) src s)) ⌝ }
 {
     let mut q = src;
@@ -26,7 +26,7 @@ pub fn unite_row(t: &mut [u64], p: usize, src: usize, hi: usize)
 
 // Row p also gets what leaves src, if p is final.
 fn link_row(t: &mut [u64], p: usize, src: usize, hi: usize, finals: u64)
-    requires { ⌜ (64 * (p + 1) ≤ length (now t)) × (64 * hi ≤ length (now t)) × (p < 64) × (src < hi) × (hi ≤ 64) ⌝ }
+    requires { ⌜ (tableStates * (p + 1) ≤ length (now t)) × (tableStates * hi ≤ length (now t)) × (p < tableStates) × (src < hi) × (hi ≤ tableStates) ⌝ }
     ensures { λ _. ⌜ Put (now (t .entry)) (now (t .exit)) p (p + 1) src hi (linked (now (t .entry)) src finals) ⌝ }
 {
     if bits::has(finals, p) {
@@ -36,7 +36,7 @@ fn link_row(t: &mut [u64], p: usize, src: usize, hi: usize, finals: u64)
 
 // Each final row of from to to also gets what leaves src, the first state of a block that ends at hi.
 pub fn link(t: &mut [u64], from: usize, to: usize, src: usize, hi: usize, finals: u64)
-    requires { ⌜ (64 * to ≤ length (now t)) × (64 * hi ≤ length (now t)) × (from ≤ to) × (to ≤ 64) × (src < hi) × (hi ≤ 64) ⌝ }
+    requires { ⌜ (tableStates * to ≤ length (now t)) × (tableStates * hi ≤ length (now t)) × (from ≤ to) × (to ≤ tableStates) × (src < hi) × (hi ≤ tableStates) ⌝ }
     ensures { λ _. ⌜ Put (now (t .entry)) (now (t .exit)) from to src hi (linked (now (t .entry)) src finals) ⌝ }
 {
     let mut p = from;
@@ -59,7 +59,7 @@ pub fn then(t: &mut [u64], base: usize, a: Shape, b: Shape)
 
 // `[*]` and `[+]`, which have the same labels: a's finals also get what leaves a.
 pub fn again(t: &mut [u64], base: usize, a: Shape)
-    requires { ⌜ (tableEntries ≤ length (now t)) × (0 < a .weight) × (base + a .weight ≤ 64) ⌝ }
+    requires { ⌜ (tableEntries ≤ length (now t)) × (0 < a .weight) × (base + a .weight ≤ tableStates) ⌝ }
     ensures { λ _. ⌜ Repeats a (now (t .entry)) (now (t .exit)) base ⌝ }
 {
     let hi = base + a.weight;

@@ -2,7 +2,7 @@
 ghost use Prim.Native.Nat.{_+_, _-_, _<_, _≤_};
 ghost use lib.ListN.{length};
 ghost use lib.Bits.{bitOr, bitAnd};
-ghost use Rattle.tables.specs.Table.{tableEntries, cell};
+ghost use Rattle.tables.specs.Table.{tableStates, tableEntries, cell};
 ghost use Rattle.rules.specs.declared.kinds.Pair.the-variants.{Overlap};
 ghost use Rattle.tables.specs.inner.Cells.{Put, overlappedBy, overlapped};
 ghost use Rattle.tables.specs.inner.Building.{Room, Joins};
@@ -13,7 +13,7 @@ use crate::shape::Shape;
 
 // Row p also gets what the label x lets through of what leaves src, the first state of a block that ends at hi.
 fn unite_part(t: &mut [u64], p: usize, x: u64, src: usize, hi: usize)
-    requires { ⌜ (tableEntries ≤ length (now t)) × (p < 64) × (src < hi) × (hi ≤ 64) ⌝ }
+    requires { ⌜ (tableEntries ≤ length (now t)) × (p < tableStates) × (src < hi) × (hi ≤ tableStates) ⌝ }
     ensures { λ _. ⌜ Put (now (t .entry)) (now (t .exit)) p (p + 1) src hi (λ r s. bitOr (cell (now (t .entry)) r s) (bitAnd x (cell (now (t .entry)) src s))) ⌝ }
 {
     let mut q = src;
@@ -26,7 +26,7 @@ fn unite_part(t: &mut [u64], p: usize, x: u64, src: usize, hi: usize)
 
 // Row p goes on in b by way of f, if f is final.
 fn overlap_by(t: &mut [u64], p: usize, f: usize, src: usize, hi: usize, finals: u64)
-    requires { ⌜ (tableEntries ≤ length (now t)) × (p < 64) × (f < 64) × (src < hi) × (hi ≤ 64) ⌝ }
+    requires { ⌜ (tableEntries ≤ length (now t)) × (p < tableStates) × (f < tableStates) × (src < hi) × (hi ≤ tableStates) ⌝ }
     ensures { λ _. ⌜ Put (now (t .entry)) (now (t .exit)) p (p + 1) src hi (overlappedBy (now (t .entry)) finals src f) ⌝ }
 {
     if bits::has(finals, f) {
@@ -37,7 +37,7 @@ fn overlap_by(t: &mut [u64], p: usize, f: usize, src: usize, hi: usize, finals: 
 
 // Row p goes on in b by way of each final of a. a has the states a to b, and b those from b to hi.
 fn overlap_row(t: &mut [u64], p: usize, a: usize, b: usize, hi: usize, finals: u64)
-    requires { ⌜ (tableEntries ≤ length (now t)) × (a ≤ p) × (p < b) × (b < hi) × (hi ≤ 64) ⌝ }
+    requires { ⌜ (tableEntries ≤ length (now t)) × (a ≤ p) × (p < b) × (b < hi) × (hi ≤ tableStates) ⌝ }
     ensures { λ _. ⌜ Put (now (t .entry)) (now (t .exit)) p (p + 1) b hi (overlapped (now (t .entry)) finals a b (b - a)) ⌝ }
 {
     let mut f = a;
@@ -49,7 +49,7 @@ fn overlap_row(t: &mut [u64], p: usize, a: usize, b: usize, hi: usize, finals: u
 
 // Each row of a goes on in b by way of each final of a.
 fn overlap_rows(t: &mut [u64], a: usize, b: usize, hi: usize, finals: u64)
-    requires { ⌜ (tableEntries ≤ length (now t)) × (a ≤ b) × (b < hi) × (hi ≤ 64) ⌝ }
+    requires { ⌜ (tableEntries ≤ length (now t)) × (a ≤ b) × (b < hi) × (hi ≤ tableStates) ⌝ }
     ensures { λ _. ⌜ Put (now (t .entry)) (now (t .exit)) a b b hi (overlapped (now (t .entry)) finals a b (b - a)) ⌝ }
 {
     let mut p = a;

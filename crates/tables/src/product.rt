@@ -3,7 +3,7 @@ ghost use mathlib.Core.Path.{_≡_};
 ghost use Prim.Native.Nat.{_+_, _*_, _<_, _≤_};
 ghost use lib.ListN.{length};
 ghost use Rattle.rules.specs.declared.kinds.Pair.the-variants.{Both};
-ghost use Rattle.tables.specs.Table.{tableEntries};
+ghost use Rattle.tables.specs.Table.{tableStates, tableEntries};
 ghost use Rattle.tables.specs.inner.Cells.{Put, moved, paired};
 ghost use Rattle.tables.specs.inner.Building.{Room, Joins, PairsFit};
 use crate::STATES;
@@ -27,7 +27,7 @@ pub struct Pairs {
 
 // Row i of the block of n states at from in t becomes row i of the block at to in copy.
 fn copy_row(copy: &mut [u64], t: &[u64], from: usize, to: usize, n: usize, i: usize)
-    requires { ⌜ (64 * (to + n) ≤ length (now copy)) × (64 * (from + n) ≤ length (now t)) × (to + n ≤ 64) × (from + n ≤ 64) × (i < n) ⌝ }
+    requires { ⌜ (tableStates * (to + n) ≤ length (now copy)) × (tableStates * (from + n) ≤ length (now t)) × (to + n ≤ tableStates) × (from + n ≤ tableStates) × (i < n) ⌝ }
     ensures { λ _. ⌜ Put (now (copy .entry)) (now (copy .exit)) (to + i) (to + i + 1) to (to + n) (moved (now (t .entry)) from to) ⌝ }
 {
     let mut j = 0;
@@ -40,7 +40,7 @@ fn copy_row(copy: &mut [u64], t: &[u64], from: usize, to: usize, n: usize, i: us
 
 // The block of n states at from in t, as it stands at to in copy.
 pub fn copy_block(copy: &mut [u64], t: &[u64], from: usize, to: usize, n: usize)
-    requires { ⌜ (64 * (to + n) ≤ length (now copy)) × (64 * (from + n) ≤ length (now t)) × (to + n ≤ 64) × (from + n ≤ 64) ⌝ }
+    requires { ⌜ (tableStates * (to + n) ≤ length (now copy)) × (tableStates * (from + n) ≤ length (now t)) × (to + n ≤ tableStates) × (from + n ≤ tableStates) ⌝ }
     ensures { λ _. ⌜ Put (now (copy .entry)) (now (copy .exit)) to (to + n) to (to + n) (moved (now (t .entry)) from to) ⌝ }
 {
     let mut i = 0;

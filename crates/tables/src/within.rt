@@ -7,6 +7,7 @@ ghost use Rattle.tables.specs.inner.Block.{Block, Built, anyRule};
 ghost use Rattle.tables.specs.inner.Cells.{Clean};
 ghost use Rattle.tables.specs.inner.Shapes.{ShapeOf};
 ghost use Rattle.tables.specs.inner.Building.{Room, Joins};
+ghost use Rattle.tables.specs.Table.{tableStates};
 use crate::any::pad;
 use crate::choice::choice;
 use crate::finals::raise;
@@ -18,7 +19,7 @@ use crate::shape::Shape;
 
 // The block at from in t is copied to `to`, with `true[*]` behind it: {a;true[*]}.
 fn copy_padded(copy: &mut [u64], t: &[u64], from: usize, to: usize, a: Shape)
-    requires { ⌜ (64 * (to + a .weight + 2) ≤ length (now copy)) × (64 * (from + a .weight) ≤ length (now t)) × (to + a .weight + 2 ≤ 64) × (from + a .weight ≤ 64) ⌝ }
+    requires { ⌜ (tableStates * (to + a .weight + 2) ≤ length (now copy)) × (tableStates * (from + a .weight) ≤ length (now t)) × (to + a .weight + 2 ≤ tableStates) × (from + a .weight ≤ tableStates) ⌝ }
     ensures { λ _. ⌜ ((x : Rule) (e : ℕ) → Clean (now (copy .entry)) to → ShapeOf x e a → Block (now (t .entry)) from x → Built (now (copy .entry)) (now (copy .exit)) to (two Then x anyRule)) ⌝ }
 {
     let n = a.weight;

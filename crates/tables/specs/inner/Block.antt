@@ -10,7 +10,7 @@ use Rattle.rules.specs.declared.kinds.Repeat.the-variants.{Star}
 use Rattle.rules.specs.Definition1.{Rule, letter, two, again, yea}
 use Rattle.rules.specs.Definition2.{letterCount}
 use Rattle.rules.specs.Weight.{weightOf}
-use Rattle.tables.specs.Table.{cell}
+use Rattle.tables.specs.Table.{tableStates, cell}
 use Rattle.tables.specs.Build.{UpF, auto}
 use Rattle.tables.specs.inner.Cells.{In}
 
@@ -20,18 +20,18 @@ pub record Block (t : List ℕ) (base : ℕ) (r : Rule) : Type 0 where
 
 -- the set has the rule's final states, moved up by base, and no others
 pub record FinalsAt (f base : ℕ) (r : Rule) : Type 0 where
-  pub ends : (q : ℕ) → q < 64 → T (bit f q) ↔ UpF base (auto r .final) q
+  pub ends : (q : ℕ) → q < tableStates → T (bit f q) ↔ UpF base (auto r .final) q
 
 -- t′ is t with the rule's labels in the square at base, and nowhere else changed
 pub record Built (t t′ : List ℕ) (base : ℕ) (r : Rule) : Type 0 where
   pub block : Block t′ base r
-  pub others : (p q : ℕ) → q < 64 → (In base (base + weightOf r) base (base + weightOf r) p q → ⊥) → cell t′ p q ≡ cell t p q
+  pub others : (p q : ℕ) → q < tableStates → (In base (base + weightOf r) base (base + weightOf r) p q → ⊥) → cell t′ p q ≡ cell t p q
 
 -- t is t₀ with the labels of a in the square at c and those of b in the square behind it, and nowhere else changed
 pub record Beside (t₀ t : List ℕ) (c : ℕ) (a b : Rule) : Type 0 where
   pub a-block : Block t c a
   pub b-block : Block t (c + weightOf a) b
-  pub others : (p q : ℕ) → q < 64 → (In c (c + weightOf a) c (c + weightOf a) p q → ⊥)
+  pub others : (p q : ℕ) → q < tableStates → (In c (c + weightOf a) c (c + weightOf a) p q → ⊥)
       → (In (c + weightOf a) (c + weightOf a + weightOf b) (c + weightOf a) (c + weightOf a + weightOf b) p q → ⊥) → cell t p q ≡ cell t₀ p q
 
 -- true[*], and what `&` is built as

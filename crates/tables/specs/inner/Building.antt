@@ -13,7 +13,7 @@ use Rattle.tables.specs.declared.shape.Shape.{Shape}
 use Rattle.tables.specs.declared.product.Pairs.{Pairs}
 use Rattle.tables.specs.declared.fill.Place.{Place}
 use Rattle.tables.specs.declared.fill.Place.the-variants.{Nowhere, From}
-use Rattle.tables.specs.Table.{tableEntries}
+use Rattle.tables.specs.Table.{tableStates, tableEntries}
 use Rattle.tables.specs.inner.Cells.{Clean}
 use Rattle.tables.specs.inner.Block.{Beside, Built}
 use Rattle.tables.specs.inner.Shapes.{ShapeOf}
@@ -64,7 +64,7 @@ pub record PlacedAt (s : List ℕ) (at : ℕ) (p : Pair) (base : ℕ) (r : Place
 -- the pairs stand in a table, and the operands in a copy of so many entries
 pub record PairsFit (s : Pairs) (entries : ℕ) : Type 0 where
   pub some : 0 < s .n
-  pub square : s .base + s .m * s .n ≤ 64
+  pub square : s .base + s .m * s .n ≤ tableStates
   pub beside : s .m ≤ s .second
-  pub last : s .second + s .n ≤ 64
-  pub copied : 64 * (s .second + s .n) ≤ entries
+  pub last : s .second + s .n ≤ tableStates
+  pub copied : tableStates * (s .second + s .n) ≤ entries

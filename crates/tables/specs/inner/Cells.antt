@@ -6,7 +6,7 @@ use Prim.Native.Nat.{ℕ, suc, zero, _+_, _-_, _/_, _%_, _<_, _≤_}
 use lib.Bits.{bitOr, bitAnd}
 use lib.Dec.{ltb}
 use Rattle.bits.specs.Word.{bit}
-use Rattle.tables.specs.Table.{cell}
+use Rattle.tables.specs.Table.{tableStates, cell}
 
 -- the rows a to b, the columns c to d
 pub record In (a b c d p q : ℕ) : Type 0 where
@@ -18,11 +18,11 @@ pub record In (a b c d p q : ℕ) : Type 0 where
 -- t′ is t with g p q at each place of the rectangle, and nowhere else changed; rows past 63 are the entries past the first 4,096
 pub record Put (t t′ : List ℕ) (a b c d : ℕ) (g : ℕ → ℕ → ℕ) : Type 0 where
   pub new : (p q : ℕ) → In a b c d p q → cell t′ p q ≡ g p q
-  pub old : (p q : ℕ) → q < 64 → (In a b c d p q → ⊥) → cell t′ p q ≡ cell t p q
+  pub old : (p q : ℕ) → q < tableStates → (In a b c d p q → ⊥) → cell t′ p q ≡ cell t p q
 
 -- from base on there is no label
 pub record Clean (t : List ℕ) (base : ℕ) : Type 0 where
-  pub none : (p q : ℕ) → base ≤ p → p < 64 → base ≤ q → q < 64 → cell t p q ≡ 0
+  pub none : (p q : ℕ) → base ≤ p → p < tableStates → base ≤ q → q < tableStates → cell t p q ≡ 0
 
 -- a final row gets what leaves src
 unfoldable pub linked : List ℕ → ℕ → ℕ → ℕ → ℕ → ℕ

@@ -5,10 +5,11 @@ use mathlib.Core.Logic.{_↔_}
 use lib.Dec.{T}
 use Rattle.bits.specs.Word.{bit}
 use Rattle.tables.specs.Build.{UpF}
+use Rattle.tables.specs.Table.{tableStates}
 
 -- r is the set f with each state moved up by k
 pub record Raised (f k r : ℕ) : Type 0 where
-  pub moved : (q : ℕ) → q < 64 → T (bit r q) ↔ UpF k (λ j. T (bit f j)) q
+  pub moved : (q : ℕ) → q < tableStates → T (bit r q) ↔ UpF k (λ j. T (bit f j)) q
 
 -- both states of the pair q are in their sets; b has n states
 unfoldable pub pairFinal : ℕ → ℕ → ℕ → ℕ → Bool

@@ -7,9 +7,10 @@ use Rattle.models.specs.Reading.{records}
 use Rattle.models.proofs.Passes.{records-end, records-full, records-last, records-fault, records-on}
 use Rattle.models.proofs.records.count_states.Statement.{statement}
 use Rattle.models.proofs.records.count_states.Tie as tie
+use Rattle.models.specs.Model.{modelStates}
 
 abbrev Inv-loop : tie.InvT-loop
-Inv-loop model k₀ k = (k ≤ 64) × (records (64 - k) model k ≡ records 64 model 0)
+Inv-loop model k₀ k = (k ≤ modelStates) × (records (64 - k) model k ≡ records modelStates model 0)
 
 abbrev μ-loop : tie.MeasureT-loop
 μ-loop model k₀ k = 64 - k

@@ -30,6 +30,7 @@ use Rattle.tables.proofs.shape.pair_shape.Reads as pair-shape-reads
 use Rattle.tables.proofs.shape.shape_at.Reads as shape-at-reads
 use Rattle.tables.proofs.fill.+build_at.{statement}
 use Rattle.tables.proofs.fill.+build_at.Tie.{close}
+use Rattle.tables.specs.Table.{tableStates}
 
 abbrev μ-build-at : Measures 2 build-at-kinds.ps ℕ
 μ-build-at κs a = length (a .0 .now) - a .1 .0
@@ -59,7 +60,7 @@ module _ (t : ℕ) where
     good : GoodRule (c .args .rule .now) (c .args .at)
     good = stands-good _ _ _ fits
 
-    here : (c .args .at < length (c .args .rule .now)) × (c .args .base < 64)
+    here : (c .args .at < length (c .args .rule .now)) × (c .args .base < tableStates)
     here = (rule-here _ _ good, base-small _ _ _ fits)
 
     abbrev kind : Kind

@@ -5,6 +5,7 @@ use Rattle.tables.proofs.Withins.{within-small, within-joins, zeros}
 use borrow.Author.Needs.{needs}
 use Rattle.tables.proofs.within.within.Statement.{statement}
 use Rattle.tables.proofs.within.within.Tie as tie
+use Rattle.tables.specs.Table.{tableStates}
 
 add-left : tie.Need-add-left
 add-left c = search needs
@@ -67,7 +68,7 @@ returns c =
     let p = r .before .before .before .before .before in
     let y = p .before .before .before .before in
     let x = y .before .before .before .before in
-    within-joins _ _ _ _ _ _ _ _ _ _ (x .before .before .before .before .pre) (zeros (64 * 34)) (x .copy-padded .ensures) (y .copy-padded2 .ensures) (p .product .ensures) (r .product2 .ensures) (l .choice .ensures)
+    within-joins _ _ _ _ _ _ _ _ _ _ (x .before .before .before .before .pre) (zeros (tableStates * 34)) (x .copy-padded .ensures) (y .copy-padded2 .ensures) (p .product .ensures) (r .product2 .ensures) (l .choice .ensures)
 
 pub within-spec : {M : Type 1} → statement M
 within-spec =
