@@ -30,7 +30,7 @@ use Rattle.exports.specs.declared.following.GcMoved.{GcMoved}
 use Rattle.exports.specs.declared.searching.GcSearched.{GcSearched}
 use Rattle.exports.specs.Numbers.{ruleNumbers, stateNumbers, builtNumbers, judgedNumbers, stepNumbers, movedNumbers, searchedNumbers, textNumbers}
 use Rattle.exports.specs.declared.texting.GcText.{GcText}
-use Rattle.exports.specs.Promise.{Searches}
+use Rattle.exports.specs.Promise.{GcSearches}
 
 -- what is right of the case is right of the answer
 pub by-case : {A B : Type 0} (f : A → B) {a case : A} → a ≡ case → {r : B} → r ≡ f case → r ≡ f a
@@ -70,5 +70,5 @@ answered-as {k = k} e e′ = e ∙ ap (λ (z : Searched). Answered z k) e′
 
 -- the numbers of a right answer are promised, whatever output they were computed for
 pub searches : {rule model : List ℕ} {before after : search.Slices} (x : SearchAnswer) {r : GcSearched} → search.SearchRight rule model before after (search.told x (after .run))
-    → ((run : List ℕ) → r ≡ searchedOf run x) → Searches rule model before after r
+    → ((run : List ℕ) → r ≡ searchedOf run x) → GcSearches rule model before after r
 searches {after = after} x right given = record { answer = x; right = right; given = given (after .run) }

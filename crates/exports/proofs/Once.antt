@@ -8,7 +8,7 @@ use Rattle.models.specs.Answer as models
 use Rattle.tables.specs.declared.TableAnswer.{TableAnswer}
 use Rattle.tables.specs.IsTable.{Words}
 use Rattle.tables.specs.Answer as tables
-use Rattle.tables.proofs.Once as tables-once
+use Rattle.tables.proofs.promise.Once as tables-once
 use Rattle.judge.specs.declared.JudgeAnswer.{JudgeAnswer}
 use Rattle.judge.specs.Verdict as judge
 use Rattle.judge.proofs.Once as judge-once
@@ -25,7 +25,7 @@ use Rattle.exports.specs.declared.stepping.GcStepped.{GcStepped}
 use Rattle.exports.specs.declared.following.GcMoved.{GcMoved}
 use Rattle.exports.specs.declared.searching.GcSearched.{GcSearched}
 use Rattle.exports.specs.Numbers.{ruleNumbers, modelNumbers, builtNumbers, judgedNumbers, walker, steppedNumbers, movedNumbers, searchedNumbers, textNumbers}
-use Rattle.exports.specs.Promise.{Built, Judges, Searches, ReadsText, WritesText}
+use Rattle.exports.specs.Promise.{GcBuilds, GcJudges, GcSearches, ReadsText, WritesText}
 use Rattle.texts.specs.Answer as texts
 use Rattle.texts.proofs.Once as texts-once
 use Rattle.exports.specs.declared.texting.GcText.{GcText}
@@ -43,17 +43,17 @@ one-step t set finals x r r′ e e′ = e ∙ sym e′
 pub one-follow : (t : List ℕ) (finals : ℕ) (w : List ℕ) (r r′ : GcMoved) → r ≡ movedNumbers (followOf t finals w) → r′ ≡ movedNumbers (followOf t finals w) → r ≡ r′
 one-follow t finals w r r′ e e′ = e ∙ sym e′
 
-pub one-build : (s t u v : List ℕ) (r r′ : GcBuilt) → Words u → Words v → Built s t u r → Built s t v r′ → (r ≡ r′) × (u ≡ v)
+pub one-build : (s t u v : List ℕ) (r r′ : GcBuilt) → Words u → Words v → GcBuilds s t u r → GcBuilds s t v r′ → (r ≡ r′) × (u ≡ v)
 one-build s t u v r r′ hu hv b b′ =
     let o = tables-once.one-answer s t u v (b .answer) (b′ .answer) hu hv (b .right) (b′ .right) in
     (b .given ∙ ap (λ (a : TableAnswer). builtNumbers (tables.told a)) (o .0) ∙ sym (b′ .given), o .1)
 
-pub one-judgement : (s w : List ℕ) (r r′ : GcJudged) → Judges s w r → Judges s w r′ → r ≡ r′
+pub one-judgement : (s w : List ℕ) (r r′ : GcJudged) → GcJudges s w r → GcJudges s w r′ → r ≡ r′
 one-judgement s w r r′ j j′ =
     let o = judge-once.one-answer s w (j .answer) (j′ .answer) (j .right) (j′ .right) in
     j .given ∙ ap (λ (a : JudgeAnswer). judgedNumbers (judge.told a)) o ∙ sym (j′ .given)
 
-pub one-search : (s g : List ℕ) (b a d : search.Slices) (r r′ : GcSearched) → Words (a .table) → Words (d .table) → Searches s g b a r → Searches s g b d r′ → (r ≡ r′) × (a ≡ d)
+pub one-search : (s g : List ℕ) (b a d : search.Slices) (r r′ : GcSearched) → Words (a .table) → Words (d .table) → GcSearches s g b a r → GcSearches s g b d r′ → (r ≡ r′) × (a ≡ d)
 one-search s g b a d r r′ ha hd x x′ =
     let o = search-once.one-search-answer s g b a d (x .answer) (x′ .answer) ha hd (x .right) (x′ .right) in
     (x .given ∙ ap₂ (λ (y : SearchAnswer) (l : search.Slices). searchedNumbers (search.told y (l .run))) (o .0) (o .1) ∙ sym (x′ .given), o .1)

@@ -18,19 +18,19 @@ use Rattle.exports.specs.declared.texting.GcText.{GcText}
 use Rattle.exports.specs.Numbers.{builtNumbers, judgedNumbers, searchedNumbers, textNumbers}
 
 -- gc_build: the rule's bytes s, and the table slice before and after
-pub record Built (s t t′ : List ℕ) (r : GcBuilt) : Type 0 where
+pub record GcBuilds (s t t′ : List ℕ) (r : GcBuilt) : Type 0 where
   pub answer : TableAnswer
-  pub right : tables.Right s t t′ (tables.told answer)
+  pub right : tables.BuildRight s t t′ (tables.told answer)
   pub given : r ≡ builtNumbers (tables.told answer)
 
 -- gc_judge: the rule's bytes s and the letters w
-pub record Judges (s w : List ℕ) (r : GcJudged) : Type 0 where
+pub record GcJudges (s w : List ℕ) (r : GcJudged) : Type 0 where
   pub answer : JudgeAnswer
-  pub right : judge.Right s w (judge.told answer)
+  pub right : judge.JudgeRight s w (judge.told answer)
   pub given : r ≡ judgedNumbers (judge.told answer)
 
 -- gc_search: the bytes of the rule and of the model, and the four slices before and after
-pub record Searches (rule model : List ℕ) (before after : search.Slices) (r : GcSearched) : Type 0 where
+pub record GcSearches (rule model : List ℕ) (before after : search.Slices) (r : GcSearched) : Type 0 where
   pub answer : SearchAnswer
   pub right : search.SearchRight rule model before after (search.told answer (after .run))
   pub given : r ≡ searchedNumbers (search.told answer (after .run))

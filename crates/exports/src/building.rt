@@ -2,7 +2,7 @@
 ghost use mathlib.Core.Path.{_≡_};
 ghost use Rattle.tables.specs.Answer as tables;
 ghost use Rattle.exports.specs.Numbers.{builtNumbers};
-ghost use Rattle.exports.specs.Promise.{Built};
+ghost use Rattle.exports.specs.Promise.{GcBuilds};
 use tables::TableAnswer;
 
 // What building gives back: the weight, and the set of the final states.
@@ -37,7 +37,7 @@ fn built_numbers(answer: TableAnswer) -> GcBuilt
 // Builds the rule's table in the slice.
 #[no_mangle]
 pub extern "C" fn gc_build(rule: &[u8], table: &mut [u64]) -> GcBuilt
-    ensures { λ r. ⌜ Built (now (rule .entry)) (now (table .entry)) (now (table .exit)) r ⌝ }
+    ensures { λ r. ⌜ GcBuilds (now (rule .entry)) (now (table .entry)) (now (table .exit)) r ⌝ }
 {
     let answer = tables::build(rule, table);
     built_numbers(answer)

@@ -2,7 +2,7 @@
 ghost use mathlib.Core.Path.{_≡_};
 ghost use Rattle.judge.specs.Verdict as judge;
 ghost use Rattle.exports.specs.Numbers.{judgedNumbers};
-ghost use Rattle.exports.specs.Promise.{Judges};
+ghost use Rattle.exports.specs.Promise.{GcJudges};
 use judge::JudgeAnswer;
 
 // What judging gives back: `accepts` is 1 for yes and 0 for no.
@@ -31,10 +31,10 @@ fn judged_numbers(answer: JudgeAnswer) -> GcJudged
     }
 }
 
-// Judges the letters by the rule.
+// GcJudges the letters by the rule.
 #[no_mangle]
 pub extern "C" fn gc_judge(rule: &[u8], letters: &[u8]) -> GcJudged
-    ensures { λ r. ⌜ Judges (now (rule .entry)) (now (letters .entry)) r ⌝ }
+    ensures { λ r. ⌜ GcJudges (now (rule .entry)) (now (letters .entry)) r ⌝ }
 {
     judged_numbers(judge::judge(rule, letters))
 }

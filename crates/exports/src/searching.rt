@@ -4,7 +4,7 @@ ghost use Prim.Native.Nat.{ℕ};
 ghost use mathlib.Core.List.{List};
 ghost use Rattle.search.specs.Answer as search;
 ghost use Rattle.exports.specs.Numbers.{searchedNumbers};
-ghost use Rattle.exports.specs.Promise.{Searches};
+ghost use Rattle.exports.specs.Promise.{GcSearches};
 use search::SearchAnswer;
 use search::inner::Searched;
 
@@ -49,7 +49,7 @@ fn searched_numbers(answer: SearchAnswer) -> GcSearched
     }
 }
 
-// Searches the model for the rule.
+// GcSearches the model for the rule.
 #[no_mangle]
 pub extern "C" fn gc_search(
     rule: &[u8],
@@ -59,7 +59,7 @@ pub extern "C" fn gc_search(
     work2: &mut [u16],
     run: &mut [u8],
 ) -> GcSearched
-    ensures { λ r. ⌜ Searches (now (rule .entry)) (now (model .entry)) (search.slices (now (table .entry)) (now (work1 .entry)) (now (work2 .entry)) (now (run .entry))) (search.slices (now (table .exit)) (now (work1 .exit)) (now (work2 .exit)) (now (run .exit))) r ⌝ }
+    ensures { λ r. ⌜ GcSearches (now (rule .entry)) (now (model .entry)) (search.slices (now (table .entry)) (now (work1 .entry)) (now (work2 .entry)) (now (run .entry))) (search.slices (now (table .exit)) (now (work1 .exit)) (now (work2 .exit)) (now (run .exit))) r ⌝ }
 {
     let answer = search::search(rule, model, table, work1, work2, run);
     searched_numbers(answer)

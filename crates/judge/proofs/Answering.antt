@@ -16,11 +16,11 @@ use Rattle.rules.specs.Answer.{answer, AcceptedAs, knownOf}
 use Rattle.rules.proofs.Accepting.{accepted-rule, accepted-stands}
 use Rattle.judge.specs.Parts.{letterLimit, Few}
 use Rattle.judge.specs.inner.Judging.{AcceptsAs}
-use Rattle.judge.specs.Verdict.{judged, refused, LettersTo, StrayAt, Right, rule-refused, too-many, no-letter, decided}
+use Rattle.judge.specs.Verdict.{judged, refused, LettersTo, StrayAt, JudgeRight, rule-refused, too-many, no-letter, decided}
 
 module _ (s w : List ℕ) (a : RuleAnswer) (read : rules.told a ≡ answer s) where
   -- the reader's refusal
-  pub right-refusal : (x : Refusal) → a ≡ Refused x → Right s w (refused (number x) (place x))
+  pub right-refusal : (x : Refusal) → a ≡ Refused x → JudgeRight s w (refused (number x) (place x))
   right-refusal x q = rule-refused (sym read ∙ ap rules.told q)
 
   module _ (k : Known) (q : a ≡ Accepted k) where
@@ -28,11 +28,11 @@ module _ (s w : List ℕ) (a : RuleAnswer) (read : rules.told a ≡ answer s) wh
     pub read-as : (r : Rule) × AcceptedAs s r × (k ≡ knownOf r)
     read-as = accepted-rule s k (sym read ∙ ap rules.told q)
 
-    pub right-many : letterLimit < length w → Right s w (refused tooManyLetters 0)
+    pub right-many : letterLimit < length w → JudgeRight s w (refused tooManyLetters 0)
     right-many l = too-many (read-as .1) l
 
-    pub right-stray : Few w → (i : ℕ) → StrayAt w i → Right s w (refused badLetter i)
+    pub right-stray : Few w → (i : ℕ) → StrayAt w i → JudgeRight s w (refused badLetter i)
     right-stray few i h = no-letter (read-as .1) few h
 
-    pub right-judged : Few w → LettersTo w (length w) → (b : Bool) → AcceptsAs s w b → Right s w (judged b k)
+    pub right-judged : Few w → LettersTo w (length w) → (b : Bool) → AcceptsAs s w b → JudgeRight s w (judged b k)
     right-judged few h b d = rw (read-as .2) (decided (read-as .1) few h (d (read-as .0) (length s) (accepted-stands s (read-as .0) (read-as .1))))

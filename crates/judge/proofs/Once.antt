@@ -17,7 +17,7 @@ use Rattle.judge.specs.declared.Refusal.the-variants.{OfRule, TooManyLet
 use Rattle.judge.specs.declared.JudgeAnswer.{JudgeAnswer}
 use Rattle.judge.specs.declared.JudgeAnswer.the-variants.{Judged, Refused}
 use Rattle.judge.specs.Refusals.{number, place}
-use Rattle.judge.specs.Verdict.{Verdict, judged, refused, told, Right, rule-refused, too-many, no-letter, decided}
+use Rattle.judge.specs.Verdict.{Verdict, judged, refused, told, JudgeRight, rule-refused, too-many, no-letter, decided}
 use Rattle.bits.proofs.Sayings.{says-once}
 use Rattle.judge.proofs.Strays.{stray-once, no-stray}
 
@@ -29,7 +29,7 @@ module _ (s w : List ℕ) where
       let k : knownOf r ≡ knownOf r′ = ap knownOf q in
       cc
 
-  one-verdict : {v : Verdict} → Right s w v → {v′ : Verdict} → Right s w v′ → v ≡ v′
+  one-verdict : {v : Verdict} → JudgeRight s w v → {v′ : Verdict} → JudgeRight s w v′ → v ≡ v′
   one-verdict (rule-refused q) (rule-refused q′) = cc
   one-verdict (rule-refused q) (too-many a l) = absurd (not-refused s _ _ _ q a)
   one-verdict (rule-refused q) (no-letter a f h) = absurd (not-refused s _ _ _ q a)
@@ -65,5 +65,5 @@ meant-told (Judged b k) = refl
 meant-told (Refused x) = ap Refused (named-told x)
 
 -- no second answer fits the promise of `judge`
-pub one-answer : (s w : List ℕ) (a b : JudgeAnswer) → Right s w (told a) → Right s w (told b) → a ≡ b
+pub one-answer : (s w : List ℕ) (a b : JudgeAnswer) → JudgeRight s w (told a) → JudgeRight s w (told b) → a ≡ b
 one-answer s w a b ra rb = told-once told meant meant-told a b (one-verdict s w ra rb)

@@ -12,7 +12,7 @@ use Rattle.rules.specs.Definition1.{Rule}
 use Rattle.rules.specs.Definition2.{Sat}
 use Rattle.rules.specs.Kinds.{kindOf}
 use Rattle.rules.specs.Places.{RuleAt, RuleEnds}
-use Rattle.rules.proofs.Unique.{rule-of}
+use Rattle.rules.proofs.PlacesOnce.{rule-of}
 use Rattle.judge.specs.Parts.{Few, Judged, Filled}
 use Rattle.judge.specs.inner.Cut.{PairAt, StarAt, PlusOf}
 use Rattle.judge.specs.inner.Judging.{LetterParts, JudgedAt, RepeatedAt}

@@ -44,8 +44,8 @@ ScannedAs w AllLetters = LettersTo w (length w)
 ScannedAs w (StraysAt i) = StrayAt w i
 
 -- the right verdict on the rule's bytes s and the letters w: the rule's own refusal, then 23, then 22; else yes exactly if the rule accepts w
-pub data Right (s w : List ℕ) : Verdict → Type 0 where
-  rule-refused : {n p : ℕ} → answer s ≡ rules.refused n p → Right s w (refused n p)
-  too-many : {r : Rule} → AcceptedAs s r → letterLimit < length w → Right s w (refused tooManyLetters 0)
-  no-letter : {r : Rule} {i : ℕ} → AcceptedAs s r → Few w → StrayAt w i → Right s w (refused badLetter i)
-  decided : {r : Rule} {b : Bool} → AcceptedAs s r → Few w → LettersTo w (length w) → Says b (Sat r w) → Right s w (judged b (knownOf r))
+pub data JudgeRight (s w : List ℕ) : Verdict → Type 0 where
+  rule-refused : {n p : ℕ} → answer s ≡ rules.refused n p → JudgeRight s w (refused n p)
+  too-many : {r : Rule} → AcceptedAs s r → letterLimit < length w → JudgeRight s w (refused tooManyLetters 0)
+  no-letter : {r : Rule} {i : ℕ} → AcceptedAs s r → Few w → StrayAt w i → JudgeRight s w (refused badLetter i)
+  decided : {r : Rule} {b : Bool} → AcceptedAs s r → Few w → LettersTo w (length w) → Says b (Sat r w) → JudgeRight s w (judged b (knownOf r))

@@ -1,7 +1,7 @@
 // The plain judge: whether a rule accepts a sequence of letters, found as Definition 2 reads. It builds no table of the rule.
 ghost use mathlib.Core.Path.{_≡_};
 ghost use Rattle.judge.specs.Refusals.{number, place};
-ghost use Rattle.judge.specs.Verdict.{told, Right};
+ghost use Rattle.judge.specs.Verdict.{told, JudgeRight};
 use rules::Known;
 use rules::RuleAnswer;
 use rules::numbers::BAD_LETTER;
@@ -58,7 +58,7 @@ pub enum JudgeAnswer {
 
 // Judges the letters by the rule: any two strings of bytes have one answer.
 pub fn judge(rule: &[u8], letters: &[u8]) -> JudgeAnswer
-    ensures { λ r. ⌜ Right (now (rule .entry)) (now (letters .entry)) (told r) ⌝ }
+    ensures { λ r. ⌜ JudgeRight (now (rule .entry)) (now (letters .entry)) (told r) ⌝ }
 {
     match rules::read_rule(rule) {
         RuleAnswer::Refused(x) => JudgeAnswer::Refused(Refusal::OfRule(x)),

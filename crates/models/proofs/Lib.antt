@@ -4,7 +4,7 @@ pub mod Flags
 pub mod Straying
 pub mod Soundness
 pub mod Finish
-pub mod Unique
+pub mod Once
 pub mod Examples
 pub mod Beginning
 pub mod Faulting

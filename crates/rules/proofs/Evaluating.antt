@@ -14,7 +14,7 @@ use Rattle.rules.specs.Definition1.{Formula}
 use Rattle.rules.specs.Definition2.{holds, joined}
 use Rattle.rules.specs.Kinds.{kindOf}
 use Rattle.rules.specs.Walks.{HoldsAs}
-use Rattle.rules.proofs.Unique.{formula-of}
+use Rattle.rules.proofs.PlacesOnce.{formula-of}
 
 module _ (s : List ℕ) (at x : ℕ) where
   pub h-prop : kindOf (getD s at 0) ≡ OfFormula Proposition → (b : Bool) → b ≡ bit x (getD s (at + 1) 0) → HoldsAs s at x (record { holds = b; end = at + 2 })

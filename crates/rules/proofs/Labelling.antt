@@ -17,7 +17,7 @@ use Rattle.rules.specs.Definition1.{Formula, prop}
 use Rattle.rules.specs.Definition2.{letterCount, lastProposition, holds}
 use Rattle.rules.specs.Kinds.{kindOf}
 use Rattle.rules.specs.Walks.{LabelledAs, LabelsJoin, PropositionLabels}
-use Rattle.rules.proofs.Unique.{formula-of}
+use Rattle.rules.proofs.PlacesOnce.{formula-of}
 
 abbrev labelOf : Formula → ℕ
 labelOf f = word letterCount (holds f)

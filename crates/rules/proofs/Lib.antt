@@ -1,6 +1,6 @@
 pub mod Scan
 pub mod Steps
-pub mod Unique
+pub mod PlacesOnce
 pub mod Walks
 pub mod Weighing
 pub mod Evaluating
@@ -10,7 +10,7 @@ pub mod Encode
 pub mod Stands
 pub mod Ended
 pub mod Once
-pub mod OneEnd
+pub mod EndsOnce
 pub mod Accepting
 pub mod Maps
 pub mod Deciding

@@ -17,7 +17,7 @@ use Rattle.rules.specs.Definition1.{Rule}
 use Rattle.rules.specs.Kinds.{kindOf}
 use Rattle.rules.specs.Places.{RuleAt, GoodFormula, GoodRule, FormulaEnds}
 use Rattle.rules.proofs.Scan.{rule-ends, formula-ends}
-use Rattle.rules.proofs.Unique.{rule-of, rule-inside, formula-of, formula-inside}
+use Rattle.rules.proofs.PlacesOnce.{rule-of, rule-inside, formula-of, formula-inside}
 
 module _ (s : List ℕ) (at : ℕ) (g : GoodRule s at) where
   pub rule-here : at < length s

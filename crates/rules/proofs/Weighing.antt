@@ -18,7 +18,7 @@ use Rattle.rules.specs.Kinds.{kindOf}
 use Rattle.rules.specs.Weight.{pairWeight, weightOf, countedTo}
 use Rattle.rules.specs.Places.{FormulaEnds}
 use Rattle.rules.specs.Walks.{WeighedAs}
-use Rattle.rules.proofs.Unique.{rule-of}
+use Rattle.rules.proofs.PlacesOnce.{rule-of}
 
 pub weight-pos : (r : Rule) → 1 ≤ weightOf r
 weight-pos (letter f) = omega arith

@@ -21,12 +21,12 @@ abbrev pub no-on : Rule → List ℕ → Case
 no-on r w = record { rule = r; sequence = w; says = false }
 
 -- what the case says is what Definition 2 says
-abbrev pub Right : Case → Type 0
-Right c = (T (c .says) → Sat (c .rule) (c .sequence)) × (T (not (c .says)) → Sat (c .rule) (c .sequence) → ⊥)
+abbrev pub CaseRight : Case → Type 0
+CaseRight c = (T (c .says) → Sat (c .rule) (c .sequence)) × (T (not (c .says)) → Sat (c .rule) (c .sequence) → ⊥)
 
 abbrev pub AllRight : List Case → Type 0
 AllRight [] = Unit {0}
-AllRight (c ∷ cs) = Right c × AllRight cs
+AllRight (c ∷ cs) = CaseRight c × AllRight cs
 
 abbrev pub p0 : Rule
 p0 = letter (prop 0)

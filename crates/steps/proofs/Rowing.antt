@@ -14,7 +14,7 @@ use Rattle.bits.proofs.Truths.{and-T, false-no}
 use Rattle.bits.proofs.Ranges.{below-older, below-newest, below-split}
 use Rattle.bits.proofs.Members.{members-same}
 use Rattle.tables.specs.Table.{Table, tableStates, tableEntries, cell, tableOf}
-use Rattle.tables.proofs.TableOf.{edge-out, edge-in}
+use Rattle.tables.proofs.promise.TableOf.{edge-out, edge-in}
 use Rattle.steps.specs.Rows.{Into, rowsTable, Rowed}
 use Rattle.steps.specs.inner.Puts.{Adds, Puts, AllPuts}
 use Rattle.steps.proofs.Adding.{adds-none, adds-then}

@@ -26,11 +26,11 @@ told (Refused x) = refused (number x) (place x)
 
 -- the right result for the rule's bytes s and the slice t, which is t′ after the call: the rule's own refusal, then 21, and the slice as it was;
 -- else the slice begins with the rule's table and is as it was past it
-pub data Right (s t t′ : List ℕ) : Result → Type 0 where
-  rule-refused : {n p : ℕ} → answer s ≡ Rattle.rules.specs.Answer.refused n p → t′ ≡ t → Right s t t′ (refused n p)
-  short-table : {r : Rule} → AcceptedAs s r → length t < tableEntries → t′ ≡ t → Right s t t′ (refused shortSlice 0)
-  the-table : {r : Rule} {f : ℕ} → AcceptedAs s r → tableEntries ≤ length t → f < 2 ^ 64 → IsTable r t′ f → Beyond tableEntries t t′ → Right s t t′ (tabled (knownOf r) f)
+pub data BuildRight (s t t′ : List ℕ) : Result → Type 0 where
+  rule-refused : {n p : ℕ} → answer s ≡ Rattle.rules.specs.Answer.refused n p → t′ ≡ t → BuildRight s t t′ (refused n p)
+  short-table : {r : Rule} → AcceptedAs s r → length t < tableEntries → t′ ≡ t → BuildRight s t t′ (refused shortSlice 0)
+  the-table : {r : Rule} {f : ℕ} → AcceptedAs s r → tableEntries ≤ length t → f < 2 ^ 64 → IsTable r t′ f → Beyond tableEntries t t′ → BuildRight s t t′ (tabled (knownOf r) f)
 
 -- the same where the rule is known to be accepted and the slice to be long enough: f is the set of finals of every rule that the bytes are accepted as
 pub record TableFor (s t t′ : List ℕ) (f : ℕ) : Type 0 where
-  pub right : (r : Rule) → AcceptedAs s r → Right s t t′ (tabled (knownOf r) f)
+  pub right : (r : Rule) → AcceptedAs s r → BuildRight s t t′ (tabled (knownOf r) f)

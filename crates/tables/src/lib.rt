@@ -6,7 +6,7 @@ ghost use Rattle.rules.specs.Definition1.{Rule};
 ghost use Rattle.rules.specs.Answer.{AcceptedAs};
 ghost use Rattle.tables.specs.Table.{tableEntries};
 ghost use Rattle.tables.specs.Refusals.{number, place};
-ghost use Rattle.tables.specs.Answer.{told, Right, TableFor};
+ghost use Rattle.tables.specs.Answer.{told, BuildRight, TableFor};
 use rules::Known;
 use rules::RuleAnswer;
 use rules::numbers::SHORT_SLICE;
@@ -78,7 +78,7 @@ pub fn build_accepted(rule: &[u8], table: &mut [u64]) -> u64
 
 // Builds the rule's table in the slice: any string of bytes and any slice have one answer, and a refusal leaves the slice as it was.
 pub fn build(rule: &[u8], table: &mut [u64]) -> TableAnswer
-    ensures { λ r. ⌜ Right (now (rule .entry)) (now (table .entry)) (now (table .exit)) (told r) ⌝ }
+    ensures { λ r. ⌜ BuildRight (now (rule .entry)) (now (table .entry)) (now (table .exit)) (told r) ⌝ }
 {
     match rules::read_rule(rule) {
         RuleAnswer::Refused(x) => TableAnswer::Refused(Refusal::OfRule(x)),

@@ -1,3 +1,3 @@
 pub mod Walking
 pub mod Answers
-pub mod OneAnswer
+pub mod Once

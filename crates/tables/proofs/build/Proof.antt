@@ -1,6 +1,6 @@
 -- `tables::build` meets its contract. Assumes nothing.
 use native.Mathlib.Omega.{arith}
-use Rattle.tables.proofs.Tabling.{the-rule, right-refused, right-short, right-table}
+use Rattle.tables.proofs.promise.Tabling.{the-rule, right-refused, right-short, right-table}
 use borrow.Author.Needs.{needs}
 use Rattle.tables.proofs.build.Statement.{statement}
 use Rattle.tables.proofs.build.Tie as tie

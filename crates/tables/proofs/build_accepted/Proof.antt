@@ -1,6 +1,6 @@
 -- `tables::build_accepted` meets its contract. Assumes nothing.
 use native.Mathlib.Omega.{arith}
-use Rattle.tables.proofs.Tabling.{fits-whole, ready-whole, table-for}
+use Rattle.tables.proofs.promise.Tabling.{fits-whole, ready-whole, table-for}
 use borrow.Author.Needs.{needs}
 use Rattle.tables.proofs.build_accepted.Statement.{statement}
 use Rattle.tables.proofs.build_accepted.Tie as tie

@@ -3,7 +3,7 @@ use Prim.Native.Nat.{_-_}
 use native.Mathlib.Omega.{arith}
 use lib.ListN.{length}
 use Rattle.walkers.proofs.Answers.{Following, follow-short, following-start, following-turn, follow-refused, follow-ended}
-use Rattle.walkers.proofs.OneAnswer.{follows}
+use Rattle.walkers.proofs.Once.{follows}
 use Rattle.walkers.proofs.follow.Statement.{statement}
 use Rattle.walkers.proofs.follow.Tie as tie
 

@@ -1,7 +1,7 @@
 -- `tables::any::any` meets its contract. Assumes nothing.
 use mathlib.Core.Path.{refl}
 use native.Mathlib.Omega.{arith}
-use Rattle.tables.proofs.Puts.{put-as, put-down}
+use Rattle.tables.proofs.blocks.Puts.{put-as, put-down}
 use borrow.Author.Needs.{needs}
 use Rattle.tables.proofs.any.any.Statement.{statement}
 use Rattle.tables.proofs.any.any.Tie as tie

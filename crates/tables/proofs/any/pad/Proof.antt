@@ -1,7 +1,7 @@
 -- `tables::any::pad` meets its contract. Assumes nothing.
 use mathlib.Core.Path.{refl}
 use native.Mathlib.Omega.{arith}
-use Rattle.tables.proofs.Withins.{padded}
+use Rattle.tables.proofs.blocks.Withins.{padded}
 use borrow.Author.Needs.{needs}
 use Rattle.tables.proofs.any.pad.Statement.{statement}
 use Rattle.tables.proofs.any.pad.Tie as tie

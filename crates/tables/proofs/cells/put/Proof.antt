@@ -1,7 +1,7 @@
 -- `tables::put`: one store.
 use native.Mathlib.Omega.{arith}
 use borrow.Author.Needs.{needs}
-use Rattle.tables.proofs.Puts.{put-set}
+use Rattle.tables.proofs.blocks.Puts.{put-set}
 use Rattle.tables.proofs.cells.put.Statement.{statement}
 use Rattle.tables.proofs.cells.put.Tie as tie
 

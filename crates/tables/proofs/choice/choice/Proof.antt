@@ -1,6 +1,6 @@
 -- `tables::choice::choice` meets its contract. Assumes nothing.
 use native.Mathlib.Omega.{arith}
-use Rattle.tables.proofs.Overlapping.{choice-both}
+use Rattle.tables.proofs.blocks.Overlapping.{choice-both}
 use borrow.Author.Needs.{needs}
 use Rattle.tables.proofs.choice.choice.Statement.{statement}
 use Rattle.tables.proofs.choice.choice.Tie as tie

@@ -1,5 +1,5 @@
 -- `tables::choice::either` meets its contract. Assumes nothing.
-use Rattle.tables.proofs.Choices.{either-joins}
+use Rattle.tables.proofs.blocks.Choices.{either-joins}
 use borrow.Author.Needs.{needs}
 use Rattle.tables.proofs.choice.either.Statement.{statement}
 use Rattle.tables.proofs.choice.either.Tie as tie

@@ -4,7 +4,7 @@ use Prim.Native.Nat.{_+_, _-_, _≤_}
 use native.Mathlib.Omega.{arith}
 use lib.ListN.{length}
 use Rattle.tables.specs.inner.Cells.{Put}
-use Rattle.tables.proofs.Puts.{put-none, put-step, put-as}
+use Rattle.tables.proofs.blocks.Puts.{put-none, put-step, put-as}
 use Rattle.tables.proofs.clear.clear_row.Statement.{statement}
 use Rattle.tables.proofs.clear.clear_row.Tie as tie
 

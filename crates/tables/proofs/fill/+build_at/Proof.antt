@@ -12,8 +12,8 @@ use Rattle.rules.specs.Places.{GoodRule}
 use Rattle.rules.proofs.Walks.{rule-here, not-unknown, not-formula, good-letter}
 use Rattle.tables.specs.inner.Shapes.{Fits}
 use Rattle.tables.specs.inner.Building.{Ready}
-use Rattle.tables.proofs.Shaping.{stands-good, fits-again, shaped-letter, shaped-again, shaped-two}
-use Rattle.tables.proofs.Building.{base-small, fits-zero, shape-room, letter-room, letter-done, empty-done, again-step, nowhere-step, LaidAt, laid-at, fits-lo, further, mid-small, fits-mid, ready-up, ready-mid, two-at, weights, room-of, two-step}
+use Rattle.tables.proofs.walk.Shaping.{stands-good, fits-again, shaped-letter, shaped-again, shaped-two}
+use Rattle.tables.proofs.walk.Building.{base-small, fits-zero, shape-room, letter-room, letter-done, empty-done, again-step, nowhere-step, LaidAt, laid-at, fits-lo, further, mid-small, fits-mid, ready-up, ready-mid, two-at, weights, room-of, two-step}
 use borrow.Fn.Kinds.{In}
 use borrow.Fn.PlainCycle.{Measures, is, falls, and}
 use Rattle.tables.proofs.fill.build_at.Reads as build-at

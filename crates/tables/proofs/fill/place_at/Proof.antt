@@ -4,9 +4,9 @@ use mathlib.Core.Logic.{inl, inr}
 use native.Mathlib.Omega.{arith}
 use Rattle.rules.proofs.Walks.{rule-here}
 use Rattle.tables.specs.inner.Building.{from}
-use Rattle.tables.proofs.Shaping.{stands-good, fits-first, fits-second}
-use Rattle.tables.proofs.Building.{base-small, fits-zero}
-use Rattle.tables.proofs.Placing.{placed-any, both-nowhere, both-beside}
+use Rattle.tables.proofs.walk.Shaping.{stands-good, fits-first, fits-second}
+use Rattle.tables.proofs.walk.Building.{base-small, fits-zero}
+use Rattle.tables.proofs.walk.Placing.{placed-any, both-nowhere, both-beside}
 use borrow.Author.Needs.{needs}
 use Rattle.tables.proofs.fill.place_at.Statement.{statement}
 use Rattle.tables.proofs.fill.place_at.Tie as tie

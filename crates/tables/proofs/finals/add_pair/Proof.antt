@@ -1,6 +1,6 @@
 -- `tables::finals::add_pair` meets its contract. Assumes nothing.
 use mathlib.Core.Path.{sym, _∙_}
-use Rattle.tables.proofs.FinalSets.{pair-more, pair-less}
+use Rattle.tables.proofs.blocks.FinalSets.{pair-more, pair-less}
 use borrow.Author.Needs.{needs}
 use Rattle.tables.proofs.finals.add_pair.Statement.{statement}
 use Rattle.tables.proofs.finals.add_pair.Tie as tie

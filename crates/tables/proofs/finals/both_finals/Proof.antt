@@ -5,7 +5,7 @@ use native.Mathlib.Omega.{arith}
 use Rattle.bits.specs.Word.{word}
 use Rattle.bits.proofs.Laws.{word-none}
 use Rattle.tables.specs.inner.Sets.{pairFinal}
-use Rattle.tables.proofs.FinalSets.{both-done}
+use Rattle.tables.proofs.blocks.FinalSets.{both-done}
 use borrow.Author.Needs.{needs}
 use Rattle.tables.proofs.finals.both_finals.Statement.{statement}
 use Rattle.tables.proofs.finals.both_finals.Tie as tie

@@ -2,8 +2,8 @@
 use mathlib.Core.Path.{sym, _∙_}
 use native.Mathlib.Omega.{arith}
 use mathlib.Core.Logic.{inl, inr}
-use Rattle.tables.proofs.Ends.{either-finals-on, either-finals-off}
-use Rattle.tables.proofs.FinalSets.{raise-finals}
+use Rattle.tables.proofs.blocks.Ends.{either-finals-on, either-finals-off}
+use Rattle.tables.proofs.blocks.FinalSets.{raise-finals}
 use borrow.Author.Needs.{needs}
 use Rattle.tables.proofs.finals.either_finals.Statement.{statement}
 use Rattle.tables.proofs.finals.either_finals.Tie as tie

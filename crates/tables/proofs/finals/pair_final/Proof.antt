@@ -2,7 +2,7 @@
 use mathlib.Core.Path.{sym, _∙_}
 use native.Mathlib.Omega.{arith}
 use native.Mathlib.Nat.{div-le-self, mod-le}
-use Rattle.tables.proofs.FinalSets.{pair-is, pair-not}
+use Rattle.tables.proofs.blocks.FinalSets.{pair-is, pair-not}
 use borrow.Author.Needs.{needs}
 use Rattle.tables.proofs.finals.pair_final.Statement.{statement}
 use Rattle.tables.proofs.finals.pair_final.Tie as tie

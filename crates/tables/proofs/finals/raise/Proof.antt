@@ -1,5 +1,5 @@
 -- `tables::finals::raise` meets its contract. Assumes nothing.
-use Rattle.tables.proofs.FinalSets.{shifted}
+use Rattle.tables.proofs.blocks.FinalSets.{shifted}
 use borrow.Author.Needs.{needs}
 use Rattle.tables.proofs.finals.raise.Statement.{statement}
 use Rattle.tables.proofs.finals.raise.Tie as tie

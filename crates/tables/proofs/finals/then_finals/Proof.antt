@@ -1,8 +1,8 @@
 -- `tables::finals::then_finals` meets its contract. Assumes nothing.
 use mathlib.Core.Path.{sym, _∙_}
 use native.Mathlib.Omega.{arith}
-use Rattle.tables.proofs.Ends.{then-finals-on, then-finals-off}
-use Rattle.tables.proofs.FinalSets.{raise-finals}
+use Rattle.tables.proofs.blocks.Ends.{then-finals-on, then-finals-off}
+use Rattle.tables.proofs.blocks.FinalSets.{raise-finals}
 use borrow.Author.Needs.{needs}
 use Rattle.tables.proofs.finals.then_finals.Statement.{statement}
 use Rattle.tables.proofs.finals.then_finals.Tie as tie

@@ -5,8 +5,8 @@ use native.Mathlib.Omega.{arith}
 use Rattle.rules.specs.declared.kinds.Pair.the-variants.{Then, Both}
 use Rattle.rules.specs.Definition1.{two}
 use Rattle.tables.specs.inner.Block.{anyRule}
-use Rattle.tables.proofs.Ends.{within-finals}
-use Rattle.tables.proofs.FinalSets.{any-set}
+use Rattle.tables.proofs.blocks.Ends.{within-finals}
+use Rattle.tables.proofs.blocks.FinalSets.{any-set}
 use borrow.Author.Needs.{needs}
 use Rattle.tables.proofs.finals.within_finals.Statement.{statement}
 use Rattle.tables.proofs.finals.within_finals.Tie as tie

@@ -1,6 +1,6 @@
 -- `tables::link::again` meets its contract. Assumes nothing.
 use native.Mathlib.Omega.{arith}
-use Rattle.tables.proofs.Turns.{repeats}
+use Rattle.tables.proofs.blocks.Turns.{repeats}
 use borrow.Author.Needs.{needs}
 use Rattle.tables.proofs.link.again.Statement.{statement}
 use Rattle.tables.proofs.link.again.Tie as tie

@@ -4,8 +4,8 @@ use Prim.Native.Nat.{_-_, _≤_}
 use native.Mathlib.Omega.{arith}
 use lib.ListN.{length}
 use Rattle.tables.specs.inner.Cells.{Put, linked}
-use Rattle.tables.proofs.Puts.{put-as, put-none}
-use Rattle.tables.proofs.Linking.{link-step}
+use Rattle.tables.proofs.blocks.Puts.{put-as, put-none}
+use Rattle.tables.proofs.blocks.Linking.{link-step}
 use Rattle.tables.proofs.link.link.Statement.{statement}
 use Rattle.tables.proofs.link.link.Tie as tie
 

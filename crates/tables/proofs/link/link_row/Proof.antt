@@ -2,8 +2,8 @@
 use mathlib.Core.Path.{_≡_, refl, sym, ap, _∙_}
 use native.Mathlib.Omega.{arith}
 use Rattle.bits.specs.Word.{bit}
-use Rattle.tables.proofs.Puts.{put-as, put-keep}
-use Rattle.tables.proofs.Linking.{linked-final, linked-plain}
+use Rattle.tables.proofs.blocks.Puts.{put-as, put-keep}
+use Rattle.tables.proofs.blocks.Linking.{linked-final, linked-plain}
 use borrow.Author.Needs.{needs}
 use Rattle.tables.proofs.link.link_row.Statement.{statement}
 use Rattle.tables.proofs.link.link_row.Tie as tie

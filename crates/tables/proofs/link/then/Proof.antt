@@ -1,5 +1,5 @@
 -- `tables::link::then` meets its contract. Assumes nothing.
-use Rattle.tables.proofs.Crossings.{then-joins}
+use Rattle.tables.proofs.blocks.Crossings.{then-joins}
 use borrow.Author.Needs.{needs}
 use Rattle.tables.proofs.link.then.Statement.{statement}
 use Rattle.tables.proofs.link.then.Tie as tie

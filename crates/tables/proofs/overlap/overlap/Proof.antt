@@ -1,5 +1,5 @@
 -- `tables::overlap::overlap` meets its contract. Assumes nothing.
-use Rattle.tables.proofs.Crossings.{overlap-joins}
+use Rattle.tables.proofs.blocks.Crossings.{overlap-joins}
 use borrow.Author.Needs.{needs}
 use Rattle.tables.proofs.overlap.overlap.Statement.{statement}
 use Rattle.tables.proofs.overlap.overlap.Tie as tie

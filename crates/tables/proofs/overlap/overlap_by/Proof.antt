@@ -1,6 +1,6 @@
 -- `tables::overlap::overlap_by` meets its contract. Assumes nothing.
 use mathlib.Core.Path.{sym, _∙_}
-use Rattle.tables.proofs.Overlapping.{one-put, one-keep}
+use Rattle.tables.proofs.blocks.Overlapping.{one-put, one-keep}
 use borrow.Author.Needs.{needs}
 use Rattle.tables.proofs.overlap.overlap_by.Statement.{statement}
 use Rattle.tables.proofs.overlap.overlap_by.Tie as tie

@@ -4,8 +4,8 @@ use Prim.Native.Nat.{_+_, _-_, _≤_}
 use native.Mathlib.Omega.{arith}
 use lib.ListN.{length}
 use Rattle.tables.specs.inner.Cells.{Put, overlapped}
-use Rattle.tables.proofs.Puts.{put-keep}
-use Rattle.tables.proofs.Overlapping.{overlapped-none, overlap-step, overlap-done}
+use Rattle.tables.proofs.blocks.Puts.{put-keep}
+use Rattle.tables.proofs.blocks.Overlapping.{overlapped-none, overlap-step, overlap-done}
 use Rattle.tables.proofs.overlap.overlap_row.Statement.{statement}
 use Rattle.tables.proofs.overlap.overlap_row.Tie as tie
 

@@ -4,8 +4,8 @@ use Prim.Native.Nat.{_-_, _≤_}
 use native.Mathlib.Omega.{arith}
 use lib.ListN.{length}
 use Rattle.tables.specs.inner.Cells.{Put, overlapped}
-use Rattle.tables.proofs.Puts.{put-as, put-none}
-use Rattle.tables.proofs.Overlapping.{overlap-down}
+use Rattle.tables.proofs.blocks.Puts.{put-as, put-none}
+use Rattle.tables.proofs.blocks.Overlapping.{overlap-down}
 use Rattle.tables.proofs.overlap.overlap_rows.Statement.{statement}
 use Rattle.tables.proofs.overlap.overlap_rows.Tie as tie
 

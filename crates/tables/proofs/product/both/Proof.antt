@@ -1,6 +1,6 @@
 -- `tables::product::both` meets its contract. Assumes nothing.
 use native.Mathlib.Omega.{arith}
-use Rattle.tables.proofs.Products.{both-small, both-joins}
+use Rattle.tables.proofs.blocks.Products.{both-small, both-joins}
 use borrow.Author.Needs.{needs}
 use Rattle.tables.proofs.product.both.Statement.{statement}
 use Rattle.tables.proofs.product.both.Tie as tie

@@ -4,7 +4,7 @@ use Prim.Native.Nat.{_+_, _-_, _≤_}
 use native.Mathlib.Omega.{arith}
 use lib.ListN.{length}
 use Rattle.tables.specs.inner.Cells.{Put, moved}
-use Rattle.tables.proofs.Puts.{put-none, put-down, put-as}
+use Rattle.tables.proofs.blocks.Puts.{put-none, put-down, put-as}
 use Rattle.tables.proofs.product.copy_block.Statement.{statement}
 use Rattle.tables.proofs.product.copy_block.Tie as tie
 

@@ -4,8 +4,8 @@ use Prim.Native.Nat.{_+_, _-_, _≤_}
 use native.Mathlib.Omega.{arith}
 use lib.ListN.{length}
 use Rattle.tables.specs.inner.Cells.{Put, moved}
-use Rattle.tables.proofs.Puts.{put-none, put-step, put-as}
-use Rattle.tables.proofs.Pairing.{moved-at}
+use Rattle.tables.proofs.blocks.Puts.{put-none, put-step, put-as}
+use Rattle.tables.proofs.blocks.Pairing.{moved-at}
 use Rattle.tables.proofs.product.copy_row.Statement.{statement}
 use Rattle.tables.proofs.product.copy_row.Tie as tie
 

@@ -4,7 +4,7 @@ use Prim.Native.Nat.{_-_, _/_, _%_, _<_}
 use native.Mathlib.Omega.{arith}
 use lib.Bits.{bitAnd}
 use Rattle.tables.specs.inner.Cells.{paired}
-use Rattle.tables.proofs.Pairing.{part}
+use Rattle.tables.proofs.blocks.Pairing.{part}
 use borrow.Author.Needs.{needs}
 use Rattle.tables.proofs.product.pair_label.Statement.{statement}
 use Rattle.tables.proofs.product.pair_label.Tie as tie

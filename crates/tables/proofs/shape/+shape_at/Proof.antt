@@ -8,7 +8,7 @@ use Rattle.rules.specs.declared.kinds.RuleKind.the-variants.{Letter, Empty, Two
 use Rattle.rules.specs.declared.kinds.Kind.the-variants.{OfFormula, OfRule, Unknown}
 use Rattle.rules.specs.Kinds.{kindOf}
 use Rattle.rules.proofs.Walks.{rule-here, not-unknown, not-formula, good-letter}
-use Rattle.tables.proofs.Shaping.{stands-good, fits-again, fits-first, fits-second, pair-weights, shaped-letter, shaped-empty, shaped-again, shaped-two}
+use Rattle.tables.proofs.walk.Shaping.{stands-good, fits-again, fits-first, fits-second, pair-weights, shaped-letter, shaped-empty, shaped-again, shaped-two}
 use borrow.Fn.Kinds.{In}
 use borrow.Fn.PlainCycle.{Measures, is, falls, and}
 use Rattle.tables.proofs.shape.shape_at.Reads as shape-at

@@ -1,5 +1,5 @@
 -- `tables::shape::again_shape` meets its contract. Assumes nothing.
-use Rattle.tables.proofs.Ends.{plus-finals, star-finals}
+use Rattle.tables.proofs.blocks.Ends.{plus-finals, star-finals}
 use borrow.Author.Needs.{needs}
 use Rattle.tables.proofs.shape.again_shape.Statement.{statement}
 use Rattle.tables.proofs.shape.again_shape.Tie as tie

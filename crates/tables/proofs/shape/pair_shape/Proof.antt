@@ -2,8 +2,8 @@
 use mathlib.Core.Path.{ap₂}
 use Prim.Native.Nat.{ℕ, _+_, _*_}
 use native.Mathlib.Omega.{arith}
-use Rattle.tables.proofs.Ends.{overlap-finals}
-use Rattle.tables.proofs.FinalSets.{raise-finals}
+use Rattle.tables.proofs.blocks.Ends.{overlap-finals}
+use Rattle.tables.proofs.blocks.FinalSets.{raise-finals}
 use borrow.Author.Needs.{needs}
 use Rattle.tables.proofs.shape.pair_shape.Statement.{statement}
 use Rattle.tables.proofs.shape.pair_shape.Tie as tie

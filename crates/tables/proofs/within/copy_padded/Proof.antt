@@ -1,5 +1,5 @@
 -- `tables::within::copy_padded` meets its contract. Assumes nothing.
-use Rattle.tables.proofs.Withins.{copy-padded}
+use Rattle.tables.proofs.blocks.Withins.{copy-padded}
 use borrow.Author.Needs.{needs}
 use Rattle.tables.proofs.within.copy_padded.Statement.{statement}
 use Rattle.tables.proofs.within.copy_padded.Tie as tie

@@ -1,7 +1,7 @@
 -- `tables::within::within` meets its contract. Assumes nothing.
 use Prim.Native.Nat.{_*_}
 use native.Mathlib.Omega.{arith}
-use Rattle.tables.proofs.Withins.{within-small, within-joins, zeros}
+use Rattle.tables.proofs.blocks.Withins.{within-small, within-joins, zeros}
 use borrow.Author.Needs.{needs}
 use Rattle.tables.proofs.within.within.Statement.{statement}
 use Rattle.tables.proofs.within.within.Tie as tie

@@ -1,0 +1,15 @@
+pub mod Labels
+pub mod Places
+pub mod Crossings
+pub mod Choices
+pub mod Products
+pub mod Turns
+pub mod Singles
+pub mod Withins
+pub mod Wholes
+pub mod Ends
+pub mod Puts
+pub mod Linking
+pub mod Overlapping
+pub mod Pairing
+pub mod FinalSets

@@ -1,0 +1,5 @@
+pub mod TableOf
+pub mod Serving
+pub mod Tabling
+pub mod Beyonds
+pub mod Once
