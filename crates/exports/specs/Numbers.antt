@@ -47,7 +47,7 @@ judgedNumbers (judge.refused n p) = record { refused = n; place = p; accepts = 0
 
 -- the walker that a caller spells as two numbers
 abbrev pub walker : ℕ → ℕ → Walker
-walker set finals = record { set = set; finals = finals }
+walker set finals = walkers.walkerAt set finals
 
 -- beside what a step says stands the walker's set
 abbrev pub stepNumbers : ℕ → walkers.Outcome → GcStepped

@@ -42,6 +42,6 @@ fn stepped_numbers(step: Step) -> GcStepped
 pub extern "C" fn gc_step(set: u64, finals: u64, table: &[u64], letter: u8) -> GcStepped
     ensures { λ r. ⌜ r ≡ steppedNumbers (walkers.stepOf (now (table .entry)) (walker set finals) letter) ⌝ }
 {
-    let walker = Walker { set, finals };
+    let walker = Walker::at(set, finals);
     stepped_numbers(walker.step(table, letter))
 }

@@ -1,35 +1,16 @@
 -- The line and a newline after it are what is printed for every input that begins with what was kept. Assumes nothing.
 use Prim.Native.Nat.{ℕ, zero, suc, _+_, _≤_, _<_}
 use native.Mathlib.Omega.{arith}
-use mathlib.Core.Path.{_≡_, refl, sym, ap, subst, _∙_}
-use mathlib.Core.List.{List, [], _∷_, _++_, append-assoc}
+use mathlib.Core.Path.{_≡_, sym, ap, subst, _∙_}
+use mathlib.Core.List.{List, [], _∷_, _++_}
 use lib.ListN.{length, getD, take, drop, set, length-append, length-take, length-drop, length-set}
-use lib.Seq.{take-at, drop-append-le, getD-take}
+use lib.Seq.{getD-take}
 use Rattle.lines.specs.Room.{lineRoom}
 use Rattle.writing.specs.Wrote.{Wrote}
 use Rattle.lines.specs.Line.{LineOf, LineRight, short-output, written}
-use Rattle.writing.proofs.Wrotes.{wrote-byte, wrote-more}
+use Rattle.writing.proofs.Wrotes.{wrote-byte, wrote-more, wrote-inside, wrote-front, wrote-on}
 use Rattle.lines.proofs.Beginning.{beginning}
 use Rattle.rulecheck.specs.Printed.{inputRoom, newline, Printed, PrintedFor}
-
--- what is written from the front of a slice ends inside it, and is what the slice begins with
-wrote-inside : {p b a : List ℕ} {e : ℕ} → Wrote p b 0 a e → e ≤ length b
-wrote-inside {p} {b} {a} {e} w =
-    let l = length-append p (drop e b) in let m = length-drop e b in let n = ap length (w .content) in let k = w .ends in let z = w .size in omega arith
-
-wrote-front : {p b a : List ℕ} {e : ℕ} → Wrote p b 0 a e → take e a ≡ p
-wrote-front {p} {b} {a} {e} w = ap (take e) (w .content) ∙ take-at p (drop e b) e (let k = w .ends in omega arith)
-
--- the same in a slice that goes on
-wrote-on : {p b a : List ℕ} {e : ℕ} (rest : List ℕ) → Wrote p b 0 a e → Wrote p (b ++ rest) 0 (a ++ rest) e
-wrote-on {p} {b} {a} {e} rest w = record {
-  ends = w .ends;
-  content =
-      ap (λ (s : List ℕ). s ++ rest) (w .content)
-      ∙ append-assoc p (drop e b) rest
-      ∙ ap (λ (s : List ℕ). p ++ s) (sym (drop-append-le e b rest (wrote-inside w)));
-  size = let l = length-append a rest in let m = length-append b rest in let z = w .size in omega arith;
-}
 
 -- the first byte of what was kept is a byte
 pub first-byte : (n : ℕ) (s : List ℕ) → getD s 0 0 < 256 → getD (take n s) 0 0 < 256

@@ -1,11 +1,10 @@
 // Reads one input from standard input and prints its line: a byte that says how long the rule is, the rule, and the model.
 // Where a read or a write fails there is no verdict, and standard error says so.
-ghost use Prim.Native.Nat.{_≤_};
-ghost use mathlib.Core.Path.{_≡_};
-ghost use lib.ListN.{length, take};
+ghost use lib.ListN.{take};
 ghost use Rattle.rulecheck.specs.Printed.{Lent, PrintedFor};
 use lines::LINE_ROOM;
 use streams::Input;
+use writing::front;
 
 // The length byte, a rule of 255 bytes and 705 of the model: what comes after never changes the line.
 const INPUT_ROOM: usize = 961;
@@ -14,14 +13,6 @@ const INPUT_ROOM: usize = 961;
 const OUTPUT_ROOM: usize = LINE_ROOM + 1;
 
 const NEWLINE: u8 = 10;
-
-// The first n bytes.
-fn front(s: &[u8], n: usize) -> &[u8]
-    requires { ⌜ n ≤ length (now s) ⌝ }
-    ensures { λ r. ⌜ now r ≡ take n (now (s .entry)) ⌝ }
-{
-    &s[..n]
-}
 
 // All but the system's calls: the first `long` bytes of `space` were read, and `out` is to begin with what is printed, so many bytes of it.
 fn printed(space: &[u8], long: usize, out: &mut [u8]) -> usize

@@ -18,7 +18,7 @@ use Rattle.walkers.specs.declared.StepAnswer.the-variants.{Moved, Refuse
 use Rattle.tables.specs.Table.{tableEntries}
 use Rattle.steps.specs.Moves.{advanced, meets}
 use Rattle.steps.proofs.Gathering.{advanced-lt, meets-test}
-use Rattle.walkers.specs.Steps.{flag, refusal, told, stepOf}
+use Rattle.walkers.specs.Steps.{walkerAt, flag, refusal, told, stepOf}
 use Rattle.walkers.specs.Walks.{followFrom, followOf}
 
 module _ (t : List ℕ) (w : Walker) (x : ℕ) where
@@ -30,10 +30,10 @@ module _ (t : List ℕ) (w : Walker) (x : ℕ) where
   unfolding stepOf
   step-bad h l = rw (le-ltb (length t) tableEntries h, le-ltb x letterCount l)
 
-  pub step-moved : (set : ℕ) → tableEntries ≤ length t → x < letterCount → set ≡ advanced t (w .set) x
-      → told (record { walker = record { set = set; finals = w .finals }; answer = Moved (not (eqb (bitAnd set (w .finals)) 0)) }) ≡ stepOf t w x
+  pub step-moved : (set : ℕ) (v : Walker) → tableEntries ≤ length t → x < letterCount → set ≡ advanced t (w .set) x → v ≡ walkerAt set (w .finals)
+      → told (record { walker = v; answer = Moved (not (eqb (bitAnd set (w .finals)) 0)) }) ≡ stepOf t w x
   unfolding stepOf
-  step-moved set h l e = rw (e, le-ltb (length t) tableEntries h, lt-ltb x letterCount l, meets-test (advanced t (w .set) x) (w .finals) (advanced-lt t (w .set) x))
+  step-moved set v h l e i = rw (i, e, le-ltb (length t) tableEntries h, lt-ltb x letterCount l, meets-test (advanced t (w .set) x) (w .finals) (advanced-lt t (w .set) x))
 
 -- what is left to follow, from place i on and at this set, tells what the whole does
 pub record Following (t : List ℕ) (f : ℕ) (l : List ℕ) (set i : ℕ) : Type 0 where

@@ -14,9 +14,13 @@ use Rattle.walkers.specs.declared.StepAnswer.the-variants.{Moved, Refuse
 use Rattle.walkers.specs.declared.Step.{Step}
 use Rattle.walkers.specs.Refusals.{number, place}
 
+-- a walker at the states of the set
+abbrev pub walkerAt : ℕ → ℕ → Walker
+walkerAt set finals = record { set = set; finals = finals }
+
 -- a walker starts at {0}
 abbrev pub startOf : ℕ → Walker
-startOf finals = record { set = 1; finals = finals }
+startOf finals = walkerAt 1 finals
 
 -- an answer in the paper's terms: whether it matches, or a refusal's number and place
 pub data Outcome : Type 0 where
@@ -38,7 +42,7 @@ told s = record { walker = s .walker; says = outcome (s .answer) }
 -- the walker moved by the letter x, and whether a final is in its set
 abbrev pub movedBy : List ℕ → Walker → ℕ → Told
 movedBy t w x = record {
-  walker = record { set = advanced t (w .set) x; finals = w .finals };
+  walker = walkerAt (advanced t (w .set) x) (w .finals);
   says = flag (meets (advanced t (w .set) x) (w .finals));
 }
 

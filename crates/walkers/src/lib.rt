@@ -1,7 +1,7 @@
 // Follows letters through a lent table: a walker that is stepped, and a whole sequence at once.
 ghost use mathlib.Core.Path.{_≡_};
 ghost use Rattle.walkers.specs.Refusals.{number, place};
-ghost use Rattle.walkers.specs.Steps.{startOf, told, stepOf};
+ghost use Rattle.walkers.specs.Steps.{walkerAt, startOf, told, stepOf};
 ghost use Rattle.walkers.specs.Walks.{followOf, ending, Follows};
 use rules::formulas::LETTER_COUNT;
 use rules::numbers::BAD_LETTER;
@@ -67,14 +67,18 @@ pub enum FollowAnswer {
 }
 
 impl Walker {
+    // A walker at these states: every walker is made here.
+    pub fn at(set: u64, finals: u64) -> Walker
+        ensures { λ r. ⌜ r ≡ walkerAt set finals ⌝ }
+    {
+        Walker { set, finals }
+    }
+
     // A walker at state 0.
     pub fn start(finals: u64) -> Walker
         ensures { λ r. ⌜ r ≡ startOf finals ⌝ }
     {
-        Walker {
-            set: 1,
-            finals: finals,
-        }
+        Walker::at(1, finals)
     }
 
     // The walker moved by the letter; a refusal gives it back as it came.
@@ -95,10 +99,7 @@ impl Walker {
         }
         let set = advance(table, self.set, letter);
         Step {
-            walker: Walker {
-                set: set,
-                finals: self.finals,
-            },
+            walker: Walker::at(set, self.finals),
             answer: StepAnswer::Moved(set & self.finals != 0),
         }
     }

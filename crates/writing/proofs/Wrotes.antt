@@ -1,12 +1,12 @@
--- Laws of writing: nothing, a byte, and one part after another. Assumes nothing.
+-- Laws of writing: nothing, a byte, one part after another, and from the front on. Assumes nothing.
 use Prim.Native.Nat.{ℕ, suc, _+_, _≤_, _<_}
 use native.Mathlib.Omega.{arith}
 use native.Mathlib.Nat.{add-zero}
 use native.Mathlib.Numerals.{add-one}
 use mathlib.Core.Path.{_≡_, refl, sym, ap, ap₂, _∙_}
 use mathlib.Core.List.{List, [], _∷_, _++_, append-assoc, append-nil}
-use lib.ListN.{length, take, drop, set, length-set, length-append, take-append-drop}
-use lib.Seq.{set-split, append-snoc, take-at, drop-append-add, drop-drop, length-take-le}
+use lib.ListN.{length, take, drop, set, length-set, length-append, length-drop, take-append-drop}
+use lib.Seq.{set-split, append-snoc, take-at, drop-append-le, drop-append-add, drop-drop, length-take-le}
 use Rattle.writing.specs.Wrote.{Wrote}
 
 pub wrote-none : (b : List ℕ) (at : ℕ) → Wrote [] b at b at
@@ -63,3 +63,22 @@ pub wrote-same : {l l′ b a a′ : List ℕ} {at e e′ : ℕ} → l ≡ l′ �
 wrote-same {l} {l′} {b} {a} {a′} {at} {e} {e′} q x y =
     let n : e ≡ e′ = x .ends ∙ ap (λ (k : List ℕ). at + length k) q ∙ sym (y .ends) in
     (n, x .content ∙ ap₂ (λ (k : List ℕ) (i : ℕ). take at b ++ k ++ drop i b) q n ∙ sym (y .content))
+
+-- what is written from the front of a slice ends inside it, and is what the slice begins with
+pub wrote-inside : {p b a : List ℕ} {e : ℕ} → Wrote p b 0 a e → e ≤ length b
+wrote-inside {p} {b} {a} {e} w =
+    let l = length-append p (drop e b) in let m = length-drop e b in let n = ap length (w .content) in let k = w .ends in let z = w .size in omega arith
+
+pub wrote-front : {p b a : List ℕ} {e : ℕ} → Wrote p b 0 a e → take e a ≡ p
+wrote-front {p} {b} {a} {e} w = ap (take e) (w .content) ∙ take-at p (drop e b) e (let k = w .ends in omega arith)
+
+-- the same in a slice that goes on
+pub wrote-on : {p b a : List ℕ} {e : ℕ} (rest : List ℕ) → Wrote p b 0 a e → Wrote p (b ++ rest) 0 (a ++ rest) e
+wrote-on {p} {b} {a} {e} rest w = record {
+  ends = w .ends;
+  content =
+      ap (λ (s : List ℕ). s ++ rest) (w .content)
+      ∙ append-assoc p (drop e b) rest
+      ∙ ap (λ (s : List ℕ). p ++ s) (sym (drop-append-le e b rest (wrote-inside w)));
+  size = let l = length-append a rest in let m = length-append b rest in let z = w .size in omega arith;
+}
