@@ -4,7 +4,6 @@ use mathlib.Core.Path.{_≡_, refl, sym, subst}
 use mathlib.Core.Logic.{⊎-elim}
 use mathlib.Core.List.{List}
 use native.Mathlib.Omega.{arith}
-use lib.Bits.{bitAnd}
 use lib.Dec.{T}
 use lib.ListN.{length, getD}
 use Rattle.bits.specs.Word.{bit}
@@ -33,10 +32,6 @@ adds-below-next S n x y =
 
 pub adds-below-end : {a b : List ℕ} {m : ℕ} (S : ℕ → ℕ → ℕ → Type 0) → Adds a b (λ i k. Below (λ q i. S q i k) m i) → (n : ℕ) → m ≤ n → n ≤ m → Adds a b (λ i k. Below (λ q i. S q i k) n i)
 adds-below-end {a} {b} {m} S x n h l = let e : m ≡ n = omega arith in subst (λ (y : ℕ). Adds a b (λ i k. Below (λ q i. S q i k) y i)) e x
-
--- the label as it was read
-pub puts-as : {a b : List ℕ} {v : ℕ} (table : List ℕ) (used p q : ℕ) → v ≡ cell table p q → Adds a b (λ i k. Over (In (bitAnd v used)) (λ x. (i ≡ tableStates * x + p) × (k ≡ q))) → Adds a b (Puts table used p q)
-puts-as {a} {b} table used p q e y = subst (λ (w : ℕ). Adds a b (λ i k. Over (In (bitAnd w used)) (λ x. (i ≡ tableStates * x + p) × (k ≡ q)))) e y
 
 -- rows that began at 0 are the table's, for the letters that are used
 module _ (table : List ℕ) (n used : ℕ) (a b : List ℕ) (long : tableEntries ≤ length b) (small : n ≤ tableStates) (zeros : (i : ℕ) → getD a i 0 ≡ 0) (y : Adds a b (AllPuts table n used)) where

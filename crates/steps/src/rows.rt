@@ -7,7 +7,7 @@ ghost use Rattle.bits.specs.Word.{bit};
 ghost use Rattle.bits.specs.Sets.{In, Members, Over};
 ghost use Rattle.tables.specs.Table.{tableStates, tableEntries, tableOf};
 ghost use Rattle.steps.specs.Rows.{Rowed};
-ghost use Rattle.steps.specs.inner.Puts.{Adds, RowPuts};
+ghost use Rattle.steps.specs.inner.Puts.{Adds, Extended, RowPuts, Scatters};
 use tables::STATES;
 use tables::cells::get;
 
@@ -26,17 +26,45 @@ pub fn union(words: &[u64], base: usize, set: u64) -> u64
     out
 }
 
-// Adds q to the rows of p for the letters of the label.
-fn scatter(rows: &mut [u64], p: usize, q: usize, label: u64)
-    requires { ⌜ (tableEntries ≤ length (now rows)) × (p < tableStates) × (q < tableStates) ⌝ }
-    ensures { λ _. ⌜ Adds (now (rows .entry)) (now (rows .exit)) (λ i k. Over (In label) (λ x. (i ≡ tableStates * x + p) × (k ≡ q))) ⌝ }
+// A label, and the states that it leads to so far.
+pub struct Bundle {
+    pub label: u64,
+    pub to: u64,
+}
+
+// Adds the states to the rows of p for the letters of the label.
+fn scatter(rows: &mut [u64], p: usize, to: u64, label: u64)
+    requires { ⌜ (tableEntries ≤ length (now rows)) × (p < tableStates) ⌝ }
+    ensures { λ _. ⌜ Adds (now (rows .entry)) (now (rows .exit)) (Scatters p to label) ⌝ }
 {
-    let mine = bits::with(0, q);
     let mut rest = label;
     while rest != 0 {
         let x = bits::lowest(rest);
         rest = bits::without(rest, x);
-        rows[STATES * x + p] |= mine;
+        rows[STATES * x + p] |= to;
+    }
+}
+
+// One label more, from p to q. Columns with the same label are kept together, so that its letters are gone over once for all of them.
+fn extend(rows: &mut [u64], p: usize, q: usize, label: u64, bundle: Bundle) -> Bundle
+    requires { ⌜ (tableEntries ≤ length (now rows)) × (p < tableStates) × (q < tableStates) ⌝ }
+    ensures { λ r. ⌜ (length (now (rows .exit)) ≡ length (now (rows .entry))) × Extended p q label (bundle .label) (bundle .to) (r .label) (r .to) (now (rows .entry)) (now (rows .exit)) ⌝ }
+{
+    if label == 0 {
+        return bundle;
+    }
+    let before = bundle.label;
+    let to = bundle.to;
+    if label == before {
+        return Bundle {
+            label,
+            to: bits::with(to, q),
+        };
+    }
+    scatter(rows, p, to, before);
+    Bundle {
+        label,
+        to: bits::with(0, q),
     }
 }
 
@@ -45,10 +73,14 @@ fn rows_from(table: &[u64], rows: &mut [u64], weight: usize, used: u64, p: usize
     requires { ⌜ (tableEntries ≤ length (now table)) × (tableEntries ≤ length (now rows)) × (weight ≤ tableStates) × (p < tableStates) ⌝ }
     ensures { λ _. ⌜ Adds (now (rows .entry)) (now (rows .exit)) (RowPuts (now (table .entry)) weight used p) ⌝ }
 {
+    let mut bundle = Bundle { label: 0, to: 0 };
     for q in 0..weight {
         let label = get(table, p, q) & used;
-        scatter(rows, p, q, label);
+        bundle = extend(rows, p, q, label, bundle);
     }
+    let label = bundle.label;
+    let to = bundle.to;
+    scatter(rows, p, to, label);
 }
 
 // The rows of every state for the letters in `used`, on rows that are all 0.

@@ -13,9 +13,10 @@ pub fn run() -> bool {
     println!();
     println!("Hard cases. Each call is made {CALLS} times.");
     let searches = searches();
+    let growth = growth();
     let builds = builds();
     let judges = judges();
-    searches && builds && judges
+    searches && growth && builds && judges
 }
 
 fn heading(title: &str) {
@@ -81,6 +82,18 @@ fn searches() -> bool {
     let mut same = true;
     for (name, rule, model) in &cases {
         same &= search(name, rule, model);
+    }
+    same
+}
+
+/// Rings of twice as many states each time: how the time grows with the pairs.
+fn growth() -> bool {
+    heading("search, as the pairs grow");
+    let rule = heavy::cycle_then_p0(31);
+    let mut same = true;
+    for count in [8, 16, 32, 64] {
+        let name = format!("ring of {count}, rounds of 31 and no p0");
+        same &= search(&name, &rule, &models::ring(count, None));
     }
     same
 }
