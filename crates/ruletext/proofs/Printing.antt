@@ -5,9 +5,9 @@ use mathlib.Core.Path.{_≡_, sym, subst, _∙_}
 use mathlib.Core.List.{List}
 use lib.ListN.{length}
 use Rattle.writing.proofs.Wrotes.{wrote-inside}
-use Rattle.text_lines.specs.Line.{lineRoom, LineRight, short-output, written}
+use Rattle.text_lines.specs.Line.{LineRight, short-output, written}
 use Rattle.text_lines.proofs.Beginning.{line-beginning}
-use Rattle.ruletext.specs.Printed.{inputRoom, PrintedFor}
+use Rattle.ruletext.specs.Printed.{PrintedFor}
 
 inside : {kept before after : List ℕ} {long : ℕ} → LineRight kept before after long → long ≤ length after
 inside (short-output l e z) = omega arith

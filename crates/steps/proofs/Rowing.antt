@@ -7,15 +7,14 @@ use native.Mathlib.Omega.{arith}
 use lib.Dec.{T}
 use lib.ListN.{length, getD}
 use Rattle.bits.specs.Word.{bit}
-use Rattle.bits.specs.Sets.{In, Members, Over, Below}
+use Rattle.bits.specs.Sets.{In, Below}
 use Rattle.bits.proofs.Laws.{bit-zero, bit-and}
 use Rattle.bits.proofs.Truths.{and-T, false-no}
 use Rattle.bits.proofs.Ranges.{below-older, below-newest, below-split}
-use Rattle.bits.proofs.Members.{members-same}
 use Rattle.tables.specs.Table.{Table, tableStates, tableEntries, cell, tableOf}
 use Rattle.tables.proofs.promise.TableOf.{edge-out, edge-in}
-use Rattle.steps.specs.Rows.{Into, rowsTable, Rowed}
-use Rattle.steps.specs.inner.Puts.{Adds, Puts, AllPuts}
+use Rattle.steps.specs.Rows.{rowsTable, Rowed}
+use Rattle.steps.specs.inner.Puts.{Adds, AllPuts}
 use Rattle.steps.proofs.Adding.{adds-none, adds-then}
 
 -- a place is that of one pair
@@ -69,8 +68,3 @@ module _ (table : List ℕ) (n used : ℕ) (a b : List ℕ) (long : tableEntries
 -- other words for the letters that are used
 pub rowed-for : {A : Table} {U W : ℕ → Type 0} {rows : List ℕ} → Rowed A U rows → ((x : ℕ) → W x → U x) → Rowed A W rows
 rowed-for R f = record { long = R .long; sound = λ x p q v. R .sound x p q (f x v); complete = λ x p q v. R .complete x p q (f x v) }
-
--- the rows of a set's members, united, are where the letter leads from the set
-pub union-into : {r : ℕ} (rows : List ℕ) (x set : ℕ) → Members r (λ q. Over (In set) (λ p. T (rowsTable rows .edge p x q))) → Members r (Into (rowsTable rows) (In set) x)
-union-into rows x set m =
-    members-same m (λ q o. record { from = o .at; held = o .inside; reads = o .holds }) (λ q o. record { at = o .from; inside = o .held; holds = o .reads })

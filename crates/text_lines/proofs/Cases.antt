@@ -19,7 +19,7 @@ use Rattle.writing.proofs.Wrotes.{wrote-more}
 use Rattle.writing.proofs.Shortness.{refused-short}
 use Rattle.text_lines.specs.Hexadecimal.{bytesText}
 use Rattle.text_lines.specs.Input.{textIn}
-use Rattle.text_lines.specs.Line.{lineRoom, shownLength, Fits, Put, answerText, LineOf, LineRight, written}
+use Rattle.text_lines.specs.Line.{lineRoom, shownLength, Fits, Put, answerText, LineRight, written}
 use Rattle.text_lines.proofs.Hexes.{bytes-short}
 
 -- the case of the answer

@@ -8,7 +8,7 @@ use mathlib.Core.List.{List}
 use lib.ListN.{replicate, length-replicate, getD-replicate, List·getD-eq-default}
 use Rattle.bits.specs.Word.{all}
 use Rattle.bits.proofs.Laws.{lt-or-ge}
-use Rattle.rules.specs.declared.kinds.Pair.the-variants.{Then, Either, Within, Both}
+use Rattle.rules.specs.declared.kinds.Pair.the-variants.{Then, Within, Both}
 use Rattle.rules.specs.Definition1.{Rule, two}
 use Rattle.rules.specs.Weight.{weightOf}
 use Rattle.rules.proofs.Weighing.{weight-pos}

@@ -7,7 +7,7 @@ use Rattle.rules.specs.declared.kinds.Pair.{Pair}
 use Rattle.rules.specs.declared.kinds.Pair.the-variants.{Both}
 use Rattle.rules.specs.Definition1.{Rule}
 use Rattle.rules.specs.Places.{RuleAt}
-use Rattle.rules.specs.Weight.{weightOf, pairWeight, weightLimit}
+use Rattle.rules.specs.Weight.{weightOf}
 use Rattle.rules.proofs.Weighing.{weight-pos}
 use Rattle.tables.specs.declared.shape.Shape.{Shape}
 use Rattle.tables.specs.declared.fill.Place.{Place}
