@@ -21,20 +21,22 @@
 /* The number of this page. It goes up by one whenever a call or a field is added or changed, so that a host can ask
  * at compile time for the page it was written against, as by `#if GONGCOLLAR_VERSION < 2`. (The page before the first
  * number had no gc_follow.) The archive has no number of its own: take both from one commit. */
-#define GONGCOLLAR_VERSION 3
+#define GONGCOLLAR_VERSION 4
 
 #ifdef __cplusplus
 extern "C" {
 #endif
 
-typedef struct { uint64_t refused, place, weight; } gc_rule;
-typedef struct { uint64_t refused, place, weight, finals; } gc_built;
-typedef struct { uint64_t refused, place, accepts; } gc_judged;
+/* `uses` is the set of the propositions that the rule names, bit i for proposition i, whether or not they matter to its
+ * meaning. */
+typedef struct { uint64_t refused, place, weight, uses; } gc_rule;
+typedef struct { uint64_t refused, place, weight, finals, uses; } gc_built;
+typedef struct { uint64_t refused, place, accepts, uses; } gc_judged;
 typedef struct { uint64_t refused, place, set, matched; } gc_stepped;
 typedef struct { uint64_t refused, place, matches; } gc_moved;
 typedef struct { uint64_t refused, place, states; } gc_model;
-typedef struct { uint64_t refused, place, found, length, pairs; } gc_searched;
-typedef struct { uint64_t refused, place, length, weight; } gc_text;
+typedef struct { uint64_t refused, place, found, length, pairs, uses; } gc_searched;
+typedef struct { uint64_t refused, place, length, weight, uses; } gc_text;
 
 gc_rule gc_read_rule(const uint8_t *rule, size_t rule_len);
 gc_built gc_build(const uint8_t *rule, size_t rule_len, uint64_t *table, size_t table_len);

@@ -26,8 +26,8 @@ digit true = 1
 digit false = 0
 
 abbrev pub ruleNumbers : rules.Result → GcRule
-ruleNumbers (rules.accepted k) = record { refused = 0; place = 0; weight = k .weight }
-ruleNumbers (rules.refused n p) = record { refused = n; place = p; weight = 0 }
+ruleNumbers (rules.accepted k) = record { refused = 0; place = 0; weight = k .weight; uses = k .uses }
+ruleNumbers (rules.refused n p) = record { refused = n; place = p; weight = 0; uses = 0 }
 
 abbrev pub stateNumbers : ℕ → models.Verdict → GcModel
 stateNumbers states models.accepted = record { refused = 0; place = 0; states = states }
@@ -38,12 +38,12 @@ abbrev pub modelNumbers : models.Result → GcModel
 modelNumbers m = stateNumbers (m .model .states) (m .verdict)
 
 abbrev pub builtNumbers : tables.Result → GcBuilt
-builtNumbers (tables.tabled k f) = record { refused = 0; place = 0; weight = k .weight; finals = f }
-builtNumbers (tables.refused n p) = record { refused = n; place = p; weight = 0; finals = 0 }
+builtNumbers (tables.tabled k f) = record { refused = 0; place = 0; weight = k .weight; finals = f; uses = k .uses }
+builtNumbers (tables.refused n p) = record { refused = n; place = p; weight = 0; finals = 0; uses = 0 }
 
 abbrev pub judgedNumbers : judge.Verdict → GcJudged
-judgedNumbers (judge.judged b k) = record { refused = 0; place = 0; accepts = digit b }
-judgedNumbers (judge.refused n p) = record { refused = n; place = p; accepts = 0 }
+judgedNumbers (judge.judged b k) = record { refused = 0; place = 0; accepts = digit b; uses = k .uses }
+judgedNumbers (judge.refused n p) = record { refused = n; place = p; accepts = 0; uses = 0 }
 
 -- the walker that a caller spells as two numbers
 abbrev pub walker : ℕ → ℕ → Walker
@@ -62,10 +62,10 @@ movedNumbers (walkers.flag b) = record { refused = 0; place = 0; matches = digit
 movedNumbers (walkers.refusal n p) = record { refused = n; place = p; matches = 0 }
 
 abbrev pub searchedNumbers : search.Result → GcSearched
-searchedNumbers (search.answered k n (found r c)) = record { refused = 0; place = 0; found = 1; length = n; pairs = c }
-searchedNumbers (search.answered k n (nothing c)) = record { refused = 0; place = 0; found = 0; length = 0; pairs = c }
-searchedNumbers (search.refused n p) = record { refused = n; place = p; found = 0; length = 0; pairs = 0 }
+searchedNumbers (search.answered k n (found r c)) = record { refused = 0; place = 0; found = 1; length = n; pairs = c; uses = k .uses }
+searchedNumbers (search.answered k n (nothing c)) = record { refused = 0; place = 0; found = 0; length = 0; pairs = c; uses = k .uses }
+searchedNumbers (search.refused n p) = record { refused = n; place = p; found = 0; length = 0; pairs = 0; uses = 0 }
 
 abbrev pub textNumbers : texts.Result → GcText
-textNumbers (texts.given n k) = record { refused = 0; place = 0; length = n; weight = k .weight }
-textNumbers (texts.refused n p) = record { refused = n; place = p; length = 0; weight = 0 }
+textNumbers (texts.given n k) = record { refused = 0; place = 0; length = n; weight = k .weight; uses = k .uses }
+textNumbers (texts.refused n p) = record { refused = n; place = p; length = 0; weight = 0; uses = 0 }

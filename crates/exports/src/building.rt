@@ -5,13 +5,14 @@ ghost use Rattle.exports.specs.Numbers.{builtNumbers};
 ghost use Rattle.exports.specs.Promise.{GcBuilds};
 use tables::TableAnswer;
 
-// What building gives back: the weight, and the set of the final states.
+// What building gives back: the weight, the set of the final states, and the propositions that the rule names.
 #[repr(C)]
 pub struct GcBuilt {
     pub refused: u64,
     pub place: u64,
     pub weight: u64,
     pub finals: u64,
+    pub uses: u64,
 }
 
 // The numbers for each case of the answer.
@@ -24,12 +25,14 @@ fn built_numbers(answer: TableAnswer) -> GcBuilt
             place: 0,
             weight: rule.weight as u64,
             finals,
+            uses: rule.uses,
         },
         TableAnswer::Refused(x) => GcBuilt {
             refused: x.number(),
             place: x.place() as u64,
             weight: 0,
             finals: 0,
+            uses: 0,
         },
     }
 }

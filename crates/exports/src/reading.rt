@@ -6,12 +6,13 @@ ghost use Rattle.exports.specs.Numbers.{ruleNumbers, stateNumbers, model
 use models::ModelAnswer;
 use rules::RuleAnswer;
 
-// What reading a rule gives back.
+// What reading a rule gives back: the weight, and the set of the propositions that it names, bit i for proposition i.
 #[repr(C)]
 pub struct GcRule {
     pub refused: u64,
     pub place: u64,
     pub weight: u64,
+    pub uses: u64,
 }
 
 // What reading a model gives back.
@@ -31,11 +32,13 @@ fn rule_numbers(answer: RuleAnswer) -> GcRule
             refused: 0,
             place: 0,
             weight: known.weight as u64,
+            uses: known.uses,
         },
         RuleAnswer::Refused(x) => GcRule {
             refused: x.number(),
             place: x.place() as u64,
             weight: 0,
+            uses: 0,
         },
     }
 }

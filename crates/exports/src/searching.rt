@@ -8,7 +8,7 @@ ghost use Rattle.exports.specs.Promise.{GcSearches};
 use search::SearchAnswer;
 use search::inner::Searched;
 
-// What a search gives back: `found` is 1 where there is a run, which `length` counts.
+// What a search gives back: `found` is 1 where there is a run, which `length` counts; and the propositions that the rule names.
 #[repr(C)]
 pub struct GcSearched {
     pub refused: u64,
@@ -16,6 +16,7 @@ pub struct GcSearched {
     pub found: u64,
     pub length: u64,
     pub pairs: u64,
+    pub uses: u64,
 }
 
 // The numbers for each case of the answer.
@@ -23,13 +24,14 @@ fn searched_numbers(answer: SearchAnswer) -> GcSearched
     ensures { λ r. ⌜ ((run : List ℕ) → r ≡ searchedNumbers (search.told answer run)) ⌝ }
 {
     match answer {
-        SearchAnswer::Answered { searched, rule: _ } => match searched {
+        SearchAnswer::Answered { searched, rule } => match searched {
             Searched::Found { long, pairs } => GcSearched {
                 refused: 0,
                 place: 0,
                 found: 1,
                 length: long as u64,
                 pairs: pairs as u64,
+                uses: rule.uses,
             },
             Searched::Nothing { pairs } => GcSearched {
                 refused: 0,
@@ -37,6 +39,7 @@ fn searched_numbers(answer: SearchAnswer) -> GcSearched
                 found: 0,
                 length: 0,
                 pairs: pairs as u64,
+                uses: rule.uses,
             },
         },
         SearchAnswer::Refused(x) => GcSearched {
@@ -45,6 +48,7 @@ fn searched_numbers(answer: SearchAnswer) -> GcSearched
             found: 0,
             length: 0,
             pairs: 0,
+            uses: 0,
         },
     }
 }

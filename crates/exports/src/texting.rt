@@ -5,13 +5,15 @@ ghost use Rattle.exports.specs.Numbers.{textNumbers};
 ghost use Rattle.exports.specs.Promise.{ReadsText, WritesText};
 use texts::TextAnswer;
 
-// What reading or writing a text gives back: how many bytes, or characters, were written, and the rule's weight.
+// What reading or writing a text gives back: how many bytes, or characters, were written, the rule's weight,
+// and the propositions that it names.
 #[repr(C)]
 pub struct GcText {
     pub refused: u64,
     pub place: u64,
     pub length: u64,
     pub weight: u64,
+    pub uses: u64,
 }
 
 // The numbers for each case of the answer.
@@ -24,12 +26,14 @@ fn text_numbers(answer: TextAnswer) -> GcText
             place: 0,
             length: long as u64,
             weight: rule.weight as u64,
+            uses: rule.uses,
         },
         TextAnswer::Refused(x) => GcText {
             refused: x.number(),
             place: x.place() as u64,
             length: 0,
             weight: 0,
+            uses: 0,
         },
     }
 }

@@ -1,4 +1,5 @@
-// Prints the line of each of some inputs: finds, none, and refusals of the rule and of the model.
+// Prints the line of each of some inputs: finds, none, refusals of the rule and of the model, and rules that name every
+// proposition and none.
 use libc::STDOUT_FILENO;
 
 // The paper's example.
@@ -29,6 +30,13 @@ const LETTER_64: [u8; 4] = *b"\x01\x11\x20\x40";
 // A model whose only state goes to another.
 const NO_SUCH_SUCCESSOR: [u8; 13] = *b"\x01\x11\x20\x00\x01\x02\x00\x00\x00\x00\x00\x00\x00";
 
+// The rule true, and a model of one state.
+const NO_PROPOSITION: [u8; 14] = *b"\x02\x10\x02\x20\x00\x01\x00\x00\x00\x00\x00\x00\x00\x00";
+
+// (p5|(p4|(p3|(p2|(p1|(p0&!p0)))))), of which p0 does not matter; the only state has p5.
+const EVERY_PROPOSITION: [u8; 34] =
+    *b"\x16\x10\x06\x01\x05\x06\x01\x04\x06\x01\x03\x06\x01\x02\x06\x01\x01\x05\x01\x00\x04\x01\x00\x20\x20\x01\x00\x00\x00\x00\x00\x00\x00\x00";
+
 fn show(input: &[u8], out: &mut [u8]) {
     let long = lines::line(input, out);
     if long <= out.len() {
@@ -48,4 +56,6 @@ fn main() {
     show(&LETTER_64, &mut out);
     show(&NO_SUCH_SUCCESSOR, &mut out);
     show(&[], &mut out);
+    show(&NO_PROPOSITION, &mut out);
+    show(&EVERY_PROPOSITION, &mut out);
 }

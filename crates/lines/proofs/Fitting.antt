@@ -19,11 +19,11 @@ use Rattle.search.specs.Answer.{Slices, Result, answered, SearchRight, rule-ref
 use Rattle.writing.specs.Decimal.{named}
 use Rattle.writing.specs.Refused.{refusedText}
 use Rattle.lines.specs.Text.{foundWord, pairsWord, colon, noneWord, statesText, foundText, noneText}
-use Rattle.lines.specs.Room.{lineRoom, Fits}
+use Rattle.lines.specs.Room.{lineRoom, usesRoom, shownLength, Fits}
 use Rattle.writing.proofs.Shortness.{named-short, refused-short}
 use Rattle.lines.proofs.States.{states-short}
 
-pub found-room : (long pairs : ℕ) (run : List ℕ) → long < 2 ^ 64 → pairs < 2 ^ 64 → length (statesText run) ≤ 3 * 4096 → length (foundText long run pairs) ≤ lineRoom
+pub found-room : (long pairs : ℕ) (run : List ℕ) → long < 2 ^ 64 → pairs < 2 ^ 64 → length (statesText run) ≤ 3 * 4096 → length (foundText long run pairs) + usesRoom ≤ lineRoom
 unfolding foundText
 found-room long pairs run h k l =
     let a = named-short foundWord long h in
@@ -33,7 +33,7 @@ found-room long pairs run h k l =
     let e = length-append colon (statesText run) in
     omega arith
 
-pub none-room : (pairs : ℕ) → pairs < 2 ^ 64 → length (noneText pairs) ≤ lineRoom
+pub none-room : (pairs : ℕ) → pairs < 2 ^ 64 → length (noneText pairs) + usesRoom ≤ lineRoom
 unfolding noneText
 none-room pairs h = let a = named-short noneWord pairs h in omega arith
 
@@ -54,7 +54,7 @@ module _ (rule model : List ℕ) (before after : Slices) (bytes : (i : ℕ) → 
 
 -- so the text of every answer has room
 pub search-fits : (rule model : List ℕ) (before after : Slices) → ((i : ℕ) → getD model i 0 < 256) → (answer : SearchAnswer) (out : List ℕ) → lineRoom ≤ length out → length (after .run) ≡ 4096
-    → SearchRight rule model before after (told answer (after .run)) → Fits answer (after .run) out
+    → SearchRight rule model before after (told answer (after .run)) → Fits (shownLength answer) (after .run) out
 unfolding statesText
 search-fits rule model before after bytes (Answered (Found long pairs) k) out l e x =
     let f = found-short rule model before after bytes k long pairs (take long (after .run)) x refl in

@@ -8,7 +8,7 @@ use mathlib.Core.List.{List, [], _∷_, _++_, append-assoc, append-nil}
 use lib.ListN.{length, getD, take, drop, length-append}
 use lib.Seq.{take-suc, take-add}
 use Rattle.models.specs.Model.{Model, Walk}
-use Rattle.lines.specs.Text.{stateText, statesText}
+use Rattle.lines.specs.Text.{entryText, statesText}
 use Rattle.writing.specs.Wrote.{Wrote}
 use Rattle.writing.proofs.Wrotes.{wrote-none, wrote-more}
 use Rattle.writing.proofs.Decimals.{decimal-short}
@@ -16,14 +16,14 @@ use Rattle.writing.proofs.Decimals.{decimal-short}
 states-append : (r q : List ℕ) → statesText (r ++ q) ≡ statesText r ++ statesText q
 unfolding statesText
 states-append [] q = refl
-states-append (s ∷ r) q = ap (λ (t : List ℕ). stateText s ++ t) (states-append r q) ∙ sym (append-assoc (stateText s) (statesText r) (statesText q))
+states-append (s ∷ r) q = ap (λ (t : List ℕ). entryText s ++ t) (states-append r q) ∙ sym (append-assoc (entryText s) (statesText r) (statesText q))
 
-states-single : (s : ℕ) → statesText (s ∷ []) ≡ stateText s
+states-single : (s : ℕ) → statesText (s ∷ []) ≡ entryText s
 unfolding statesText
-states-single s = append-nil (stateText s)
+states-single s = append-nil (entryText s)
 
 -- one state more
-pub states-one : (r : List ℕ) (i : ℕ) → i < length r → statesText (take i r) ++ stateText (getD r i 0) ≡ statesText (take (i + 1) r)
+pub states-one : (r : List ℕ) (i : ℕ) → i < length r → statesText (take i r) ++ entryText (getD r i 0) ≡ statesText (take (i + 1) r)
 states-one r i h =
     ap (λ (t : List ℕ). statesText (take i r) ++ t) (sym (states-single (getD r i 0)))
     ∙ sym (states-append (take i r) (getD r i 0 ∷ []))
@@ -46,22 +46,22 @@ unfolding statesText
 states-short M few ok [] w = omega arith
 states-short M few ok (s ∷ r) w =
     let d = decimal-short 1 s (omega arith) in
-    let l = length-append (stateText s) (statesText r) in
+    let l = length-append (entryText s) (statesText r) in
     let i = states-short M few (M .next s) r (w .2) in
     omega arith
 
 -- writing them state by state
 module _ (r b : List ℕ) (at i n : ℕ) {o : List ℕ} {e : ℕ} (long : n ≤ length r) (room : at + length (statesText (take n r)) ≤ length b) (x : Wrote (statesText (take i r)) b at o e) where
-  pub state-room : i < n → e + length (stateText (getD r i 0)) ≤ length o
+  pub state-room : i < n → e + length (entryText (getD r i 0)) ≤ length o
   state-room h =
-      let l : length (statesText (take i r)) + length (stateText (getD r i 0)) ≡ length (statesText (take (i + 1) r)) =
-      sym (length-append (statesText (take i r)) (stateText (getD r i 0))) ∙ ap length (states-one r i (omega arith)) in
+      let l : length (statesText (take i r)) + length (entryText (getD r i 0)) ≡ length (statesText (take (i + 1) r)) =
+      sym (length-append (statesText (take i r)) (entryText (getD r i 0))) ∙ ap length (states-one r i (omega arith)) in
       let m = states-room r (i + 1) n (omega arith) in
       let u = x .ends in
       let v = x .size in
       omega arith
 
-  pub state-turn : {o′ : List ℕ} {e′ : ℕ} → i < n → Wrote (stateText (getD r i 0)) o e o′ e′ → Wrote (statesText (take (i + 1) r)) b at o′ e′
+  pub state-turn : {o′ : List ℕ} {e′ : ℕ} → i < n → Wrote (entryText (getD r i 0)) o e o′ e′ → Wrote (statesText (take (i + 1) r)) b at o′ e′
   state-turn {o′} {e′} h y = subst (λ (p : List ℕ). Wrote p b at o′ e′) (states-one r i (omega arith)) (wrote-more (omega arith) x y)
 
 pub states-none : (r b : List ℕ) (at : ℕ) → Wrote (statesText (take 0 r)) b at b at

@@ -1,7 +1,11 @@
 -- The line that says what a search came to, in ASCII. Assumes nothing: these are definitions.
-use Prim.Native.Nat.{ℕ}
+use Prim.Native.Nat.{ℕ, zero, suc}
+use mathlib.Core.Bool.{cond}
 use mathlib.Core.List.{List, [], _∷_, _++_}
-use Rattle.search.specs.Right.{found, nothing}
+use lib.Dec.{eqb}
+use Rattle.bits.specs.Word.{bit}
+use Rattle.rules.specs.Named.{propositionCount}
+use Rattle.search.specs.Right.{Answer, found, nothing}
 use Rattle.search.specs.Answer.{Result, answered, refused}
 use Rattle.writing.specs.Decimal.{decimal, named}
 use Rattle.writing.specs.Refused.{refusedText}
@@ -22,13 +26,22 @@ colon = 58 ∷ []
 abbrev pub noneWord : List ℕ
 noneWord = 110 ∷ 111 ∷ 110 ∷ 101 ∷ 32 ∷ 112 ∷ 97 ∷ 105 ∷ 114 ∷ 115 ∷ 32 ∷ []
 
--- the states of a run, a blank before each
-abbrev pub stateText : ℕ → List ℕ
-stateText s = 32 ∷ decimal s
+-- " uses"
+abbrev pub usesWord : List ℕ
+usesWord = 32 ∷ 117 ∷ 115 ∷ 101 ∷ 115 ∷ []
 
+-- " -"
+abbrev pub noMember : List ℕ
+noMember = 32 ∷ 45 ∷ []
+
+-- a number of a list, a blank before it
+abbrev pub entryText : ℕ → List ℕ
+entryText n = 32 ∷ decimal n
+
+-- the states of a run
 unfoldable pub statesText : List ℕ → List ℕ
 statesText [] = []
-statesText (s ∷ run) = stateText s ++ statesText run
+statesText (s ∷ run) = entryText s ++ statesText run
 
 -- found: the run's length, the pair count and the run
 unfoldable pub foundText : ℕ → List ℕ → ℕ → List ℕ
@@ -38,7 +51,26 @@ foundText length run pairs = named foundWord length ++ named pairsWord pairs ++ 
 unfoldable pub noneText : ℕ → List ℕ
 noneText pairs = named noneWord pairs
 
+abbrev pub searchedText : ℕ → Answer → List ℕ
+searchedText length (found run pairs) = foundText length run pairs
+searchedText length (nothing pairs) = noneText pairs
+
+-- of the numbers below n those that are in the set, in rising order
+abbrev pub memberText : ℕ → ℕ → List ℕ
+memberText set i = cond (bit set i) (entryText i) []
+
+unfoldable pub membersText : ℕ → ℕ → List ℕ
+membersText zero set = []
+membersText (suc n) set = membersText n set ++ memberText set n
+
+-- the propositions of a set; a dash for none
+unfoldable pub setText : ℕ → List ℕ
+setText set = cond (eqb set 0) noMember (membersText propositionCount set)
+
+unfoldable pub usesText : ℕ → List ℕ
+usesText set = usesWord ++ setText set
+
+-- what was found, and which propositions the rule names; a refusal has none of it
 abbrev pub textOf : Result → List ℕ
-textOf (answered known length (found run pairs)) = foundText length run pairs
-textOf (answered known length (nothing pairs)) = noneText pairs
+textOf (answered known length x) = searchedText length x ++ usesText (known .uses)
 textOf (refused number place) = refusedText number place

@@ -2,6 +2,7 @@ pub mod Scan
 pub mod Steps
 pub mod PlacesOnce
 pub mod Walks
+pub mod Naming
 pub mod Weighing
 pub mod Evaluating
 pub mod Labelling

@@ -6,19 +6,22 @@ use native.Mathlib.Decide.{decLe}
 use mathlib.Core.Logic.{_⊎_, inl, inr, ⊎-elim}
 use mathlib.Core.Path.{_≡_, sym, ap, _∙_}
 use mathlib.Core.List.{List}
+use lib.Bits.{bitOr}
 use lib.ListN.{getD}
 use Rattle.rules.specs.declared.kinds.Pair.{Pair}
 use Rattle.rules.specs.declared.kinds.Pair.the-variants.{Then, Overlap, Either, Within, Both}
 use Rattle.rules.specs.declared.kinds.Repeat.{Repeat}
 use Rattle.rules.specs.declared.kinds.RuleKind.the-variants.{Letter, Empty, Two, Again}
 use Rattle.rules.specs.declared.kinds.Kind.the-variants.{OfRule}
+use Rattle.rules.specs.declared.names.Names.{Names}
 use Rattle.rules.specs.declared.weights.Weighed.{Weighed}
 use Rattle.rules.specs.Definition1.{Rule, letter, empty, two, again}
 use Rattle.rules.specs.Kinds.{kindOf}
 use Rattle.rules.specs.Weight.{pairWeight, weightOf, countedTo}
-use Rattle.rules.specs.Places.{FormulaEnds}
-use Rattle.rules.specs.Walks.{WeighedAs}
+use Rattle.rules.specs.Named.{usesOf}
+use Rattle.rules.specs.Walks.{NamesAs, WeighedAs}
 use Rattle.rules.proofs.PlacesOnce.{rule-of}
+use Rattle.rules.proofs.Naming.{letter-uses, empty-uses, two-uses, again-uses}
 
 pub weight-pos : (r : Rule) → 1 ≤ weightOf r
 weight-pos (letter f) = omega arith
@@ -55,18 +58,28 @@ pub capped-small : (x y : ℕ) → x ≡ min countedTo y → x ≤ 65
 capped-small x y q = omega arith
 
 module _ (s : List ℕ) (at : ℕ) where
-  pub w-letter : kindOf (getD s at 0) ≡ OfRule Letter → (x : ℕ) → FormulaEnds s (at + 1) x → WeighedAs s at (record { weight = 2; end = x })
-  w-letter q x fe r e d = let i = rule-of s (OfRule Letter) d q in (rw (i .1), fe (i .0) e (i .2))
+  pub w-letter : kindOf (getD s at 0) ≡ OfRule Letter → (n : Names) → NamesAs s (at + 1) n → WeighedAs s at (record { weight = 2; uses = n .uses; end = n .end })
+  w-letter q n h r e d =
+      let i = rule-of s (OfRule Letter) d q in
+      let o = h (i .0) e (i .2) in
+      (rw (i .1), o .0 ∙ letter-uses (i .0) ∙ ap usesOf (sym (i .1)), o .1)
 
-  pub w-empty : kindOf (getD s at 0) ≡ OfRule Empty → WeighedAs s at (record { weight = 1; end = at + 1 })
-  w-empty q r e d = let i = rule-of s (OfRule Empty) d q in (rw (i .0), i .1)
+  pub w-empty : kindOf (getD s at 0) ≡ OfRule Empty → WeighedAs s at (record { weight = 1; uses = 0; end = at + 1 })
+  w-empty q r e d = let i = rule-of s (OfRule Empty) d q in (rw (i .0), empty-uses ∙ ap usesOf (sym (i .0)), i .1)
 
   pub w-again : (p : Repeat) → kindOf (getD s at 0) ≡ OfRule (Again p) → (w : Weighed) → WeighedAs s (at + 1) w → WeighedAs s at w
-  w-again p q w ih r e d = let i = rule-of s (OfRule (Again p)) d q in let o = ih (i .0) e (i .2) in (rw (i .1) (o .0), o .1)
+  w-again p q w ih r e d =
+      let i = rule-of s (OfRule (Again p)) d q in
+      let o = ih (i .0) e (i .2) in
+      (rw (i .1) (o .0), o .1 ∙ again-uses p (i .0) ∙ ap usesOf (sym (i .1)), o .2)
 
-  pub w-two : (p : Pair) → kindOf (getD s at 0) ≡ OfRule (Two p) → (a b : Weighed) → WeighedAs s (at + 1) a → WeighedAs s (a .end) b → (w : ℕ) → w ≡ min countedTo (pairWeight p (a .weight) (b .weight)) → WeighedAs s at (record { weight = w; end = b .end })
+  pub w-two : (p : Pair) → kindOf (getD s at 0) ≡ OfRule (Two p) → (a b : Weighed) → WeighedAs s (at + 1) a → WeighedAs s (a .end) b → (w : ℕ) → w ≡ min countedTo (pairWeight p (a .weight) (b .weight))
+      → WeighedAs s at (record { weight = w; uses = bitOr (a .uses) (b .uses); end = b .end })
   w-two p q a b ih ih′ w h r e d =
       let i = rule-of s (OfRule (Two p)) d q in
       let o = ih (i .0) (i .2) (i .4) in
-      let o′ = ih′ (i .1) e (rw (o .1) (i .5)) in
-      (h ∙ two-weight p (i .0) (i .1) (a .weight) (b .weight) (o .0) (o′ .0) ∙ ap (λ (x : Rule). min countedTo (weightOf x)) (sym (i .3)), o′ .1)
+      let o′ = ih′ (i .1) e (rw (o .2) (i .5)) in (
+        h ∙ two-weight p (i .0) (i .1) (a .weight) (b .weight) (o .0) (o′ .0) ∙ ap (λ (x : Rule). min countedTo (weightOf x)) (sym (i .3)),
+        two-uses p (i .0) (i .1) (a .uses) (b .uses) (o .1) (o′ .1) ∙ ap usesOf (sym (i .3)),
+        o′ .2,
+      )

@@ -10,6 +10,7 @@ use Rattle.rules.specs.declared.RuleAnswer.{RuleAnswer}
 use Rattle.rules.specs.declared.RuleAnswer.the-variants.{Accepted, Refused}
 use Rattle.rules.specs.Definition1.{Rule}
 use Rattle.rules.specs.Weight.{weightOf, weightLimit}
+use Rattle.rules.specs.Named.{usesOf}
 use Rattle.rules.specs.Refusals.{number, place}
 use Rattle.rules.specs.Reading.{Outcome, good, fault, rule, scan}
 
@@ -28,7 +29,7 @@ parse s = scan s (rule ∷ []) (λ r. r) 0
 
 -- what is known of a rule
 abbrev pub knownOf : Rule → Known
-knownOf r = record { weight = weightOf r }
+knownOf r = record { weight = weightOf r; uses = usesOf r }
 
 -- the weight is tested last
 abbrev pub weighed : Outcome → Result

@@ -2,6 +2,7 @@ pub mod Definition1
 pub mod Definition2
 pub mod Kinds
 pub mod Weight
+pub mod Named
 pub mod Refusals
 pub mod Numbers
 pub mod Reading

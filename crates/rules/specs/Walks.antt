@@ -8,6 +8,7 @@ use Rattle.bits.specs.Word.{word}
 use Rattle.rules.specs.declared.Refusal.{Refusal}
 use Rattle.rules.specs.declared.ends.Read.{Read}
 use Rattle.rules.specs.declared.ends.Read.the-variants.{Ends, Refused}
+use Rattle.rules.specs.declared.names.Names.{Names}
 use Rattle.rules.specs.declared.weights.Weighed.{Weighed}
 use Rattle.rules.specs.declared.formulas.Held.{Held}
 use Rattle.rules.specs.declared.formulas.Labelled.{Labelled}
@@ -15,6 +16,7 @@ use Rattle.rules.specs.declared.kinds.Junction.{Junction}
 use Rattle.rules.specs.Definition1.{Formula, prop, Rule}
 use Rattle.rules.specs.Definition2.{letterCount, lastProposition, joined, holds}
 use Rattle.rules.specs.Weight.{weightOf, countedTo}
+use Rattle.rules.specs.Named.{propositionCount, formulaNames, usesOf}
 use Rattle.rules.specs.Refusals.{number, place}
 use Rattle.rules.specs.Reading.{Outcome, fault, Need, rule, formula, body, Value, Rest, scan}
 use Rattle.rules.specs.Places.{FormulaAt, RuleAt}
@@ -44,9 +46,13 @@ abbrev pub endOf : Read → ℕ
 endOf (Ends e) = e
 endOf (Refused x) = 0
 
--- the weight, counted up to one above the limit, and the end
+-- the set of the propositions that the formula names, and the end
+abbrev pub NamesAs : List ℕ → ℕ → Names → Type 0
+NamesAs s at n = (f : Formula) (e : ℕ) → FormulaAt s at f e → (n .uses ≡ word propositionCount (formulaNames f)) × (n .end ≡ e)
+
+-- the weight, counted up to one above the limit, the set of the propositions that the rule names, and the end
 abbrev pub WeighedAs : List ℕ → ℕ → Weighed → Type 0
-WeighedAs s at w = (r : Rule) (e : ℕ) → RuleAt s at r e → (w .weight ≡ min countedTo (weightOf r)) × (w .end ≡ e)
+WeighedAs s at w = (r : Rule) (e : ℕ) → RuleAt s at r e → (w .weight ≡ min countedTo (weightOf r)) × (w .uses ≡ usesOf r) × (w .end ≡ e)
 
 -- whether the formula holds in the letter x, and the end
 abbrev pub HoldsAs : List ℕ → ℕ → ℕ → Held → Type 0

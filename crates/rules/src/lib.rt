@@ -5,7 +5,8 @@ ghost use Rattle.rules.specs.Answer.{told, answer};
 
 pub mod kinds; // what a kind byte says
 pub mod ends; // where a formula or a rule that begins at a place ends, or its first fault
-pub mod weights; // how many states a rule's table has
+pub mod names; // which propositions a formula names
+pub mod weights; // how many states a rule's table has, and which propositions the rule names
 pub mod formulas; // whether a formula holds in a letter, and its label
 pub mod numbers; // the numbers of the refusals that several calls share
 
@@ -59,9 +60,10 @@ impl Refusal {
     }
 }
 
-// What is known of an accepted rule.
+// What is known of an accepted rule: its weight, and the propositions that it names, bit i for proposition i.
 pub struct Known {
     pub weight: usize,
+    pub uses: u64,
 }
 
 // What reading a rule comes to.
@@ -86,7 +88,10 @@ pub fn read_rule(rule: &[u8]) -> RuleAnswer
             let w = weights::weight_at(rule, 0);
             let weight = w.weight;
             if weight <= WEIGHT_LIMIT {
-                RuleAnswer::Accepted(Known { weight })
+                RuleAnswer::Accepted(Known {
+                    weight,
+                    uses: w.uses,
+                })
             } else {
                 RuleAnswer::Refused(Refusal::TooHeavy)
             }

@@ -1,20 +1,22 @@
-// The weight of a rule that stands in the bytes, counted up to one above the limit: that much is enough to refuse it.
+// The weight of a rule that stands in the bytes, counted up to one above the limit: that much is enough to refuse it; and the
+// propositions that it names.
 ghost use mathlib.Core.Path.{_≡_};
 ghost use Prim.Native.Nat.{_≤_, min};
 ghost use Rattle.rules.specs.Places.{GoodRule};
 ghost use Rattle.rules.specs.Weight.{pairWeight, countedTo};
 ghost use Rattle.rules.specs.Walks.{WeighedAs};
-use crate::ends::formula_past;
 use crate::kinds::Kind;
 use crate::kinds::Pair;
 use crate::kinds::RuleKind;
 use crate::kinds::kind_of;
+use crate::names::names_at;
 
 const COUNTED_TO: usize = 65;
 
-// A rule's weight, `COUNTED_TO` for any at or above it, and the place after the rule.
+// A rule's weight, `COUNTED_TO` for any at or above it, the propositions that it names, and the place after the rule.
 pub struct Weighed {
     pub weight: usize,
+    pub uses: u64,
     pub end: usize,
 }
 
@@ -41,21 +43,34 @@ fn weight_of_pair(p: Pair, m: usize, n: usize) -> usize
     }
 }
 
-// Weighs the rule that stands at `at`.
+// Weighs the rule that stands at `at` and finds what it names, in one walk.
 pub fn weight_at(rule: &[u8], at: usize) -> Weighed
     requires { ⌜ GoodRule (now rule) at ⌝ }
     ensures { λ r. ⌜ WeighedAs (now (rule .entry)) at r ⌝ }
 {
     match kind_of(rule[at]) {
-        Kind::Unknown => Weighed { weight: 0, end: at },
-        Kind::OfFormula(_) => Weighed { weight: 0, end: at },
+        Kind::Unknown => Weighed {
+            weight: 0,
+            uses: 0,
+            end: at,
+        },
+        Kind::OfFormula(_) => Weighed {
+            weight: 0,
+            uses: 0,
+            end: at,
+        },
         Kind::OfRule(k) => match k {
-            RuleKind::Letter => Weighed {
-                weight: 2,
-                end: formula_past(rule, at + 1),
-            },
+            RuleKind::Letter => {
+                let f = names_at(rule, at + 1);
+                Weighed {
+                    weight: 2,
+                    uses: f.uses,
+                    end: f.end,
+                }
+            }
             RuleKind::Empty => Weighed {
                 weight: 1,
+                uses: 0,
                 end: at + 1,
             },
             RuleKind::Again(_) => weight_at(rule, at + 1),
@@ -65,6 +80,7 @@ pub fn weight_at(rule: &[u8], at: usize) -> Weighed
                 let b = weight_at(rule, m);
                 Weighed {
                     weight: weight_of_pair(p, a.weight, b.weight),
+                    uses: a.uses | b.uses,
                     end: b.end,
                 }
             }

@@ -10,6 +10,7 @@ pub fn read_rule(rule: &[u8]) -> Rule {
     match plain::read_rule(rule) {
         Ok(read) => Rule {
             weight: read.weight,
+            uses: read.rule.names(),
             ..Rule::default()
         },
         Err(Refusal { number, place }) => Rule {
@@ -20,6 +21,11 @@ pub fn read_rule(rule: &[u8]) -> Rule {
     }
 }
 
+/// What stands in a rule; nothing in a refused one.
+pub fn names(rule: &[u8]) -> u64 {
+    plain::read_rule(rule).map_or(0, |read| read.rule.names())
+}
+
 /// What `build` should answer and write.
 pub fn build(rule: &[u8], table: &mut [u64]) -> Built {
     match plain::build(rule, table.len()) {
@@ -28,6 +34,7 @@ pub fn build(rule: &[u8], table: &mut [u64]) -> Built {
             Built {
                 weight: built.weight,
                 finals: built.finals,
+                uses: names(rule),
                 ..Built::default()
             }
         }
@@ -44,6 +51,7 @@ pub fn judge(rule: &[u8], letters: &[u8]) -> Judged {
     match plain::judge(rule, letters) {
         Ok(accepts) => Judged {
             accepts: accepts.into(),
+            uses: names(rule),
             ..Judged::default()
         },
         Err(Refusal { number, place }) => Judged {
@@ -108,7 +116,10 @@ pub fn search(rule: &[u8], model: &[u8], slices: &mut Slices) -> Searched {
             slices.work1[..ENTRIES].fill(0);
             slices.work2[..ENTRIES].fill(0);
             build(rule, &mut slices.table);
-            found(searched, &mut slices.run)
+            Searched {
+                uses: names(rule),
+                ..found(searched, &mut slices.run)
+            }
         }
         Err(Refusal { number, place }) => Searched {
             refused: number,

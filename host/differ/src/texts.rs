@@ -16,6 +16,8 @@ const DAMAGED: usize = 6;
 const ROOM: usize = 1400;
 
 type Written = Result<plain::Given, plain::Refusal>;
+/// What was written, the weight, and what is named.
+type Owned = (Vec<u8>, u64, u64);
 type Safe<'a> = Result<(&'a [u8], RuleInfo), Refusal>;
 
 /// All trials of texts.
@@ -99,8 +101,8 @@ fn rooms(draws: &mut Draws, want: &Written) -> Vec<usize> {
     }
 }
 
-fn owned(safe: Safe<'_>) -> Result<(Vec<u8>, u64), (u64, u64)> {
-    safe.map(|(written, rule)| (written.to_vec(), rule.weight))
+fn owned(safe: Safe<'_>) -> Result<Owned, (u64, u64)> {
+    safe.map(|(written, rule)| (written.to_vec(), rule.weight, rule.uses.bits()))
         .map_err(|refusal| (refusal.number(), refusal.place()))
 }
 
@@ -114,7 +116,7 @@ fn one(
     told: &str,
     (numbers, safe): (
         impl Fn(&mut [u8]) -> Text,
-        impl Fn(&mut [u8]) -> Result<(Vec<u8>, u64), (u64, u64)>,
+        impl Fn(&mut [u8]) -> Result<Owned, (u64, u64)>,
     ),
 ) {
     let junk = trials.draws.bytes(room);
@@ -125,9 +127,13 @@ fn one(
             let answer = Text {
                 length: given.written.len() as u64,
                 weight: given.weight,
+                uses: given.names,
                 ..Text::default()
             };
-            (answer, Ok((given.written.clone(), given.weight)))
+            (
+                answer,
+                Ok((given.written.clone(), given.weight, given.names)),
+            )
         }
         Err(refusal) => {
             let answer = Text {

@@ -34,9 +34,9 @@ impl Trials {
     pub fn read_rule(&mut self, sort: &'static str, rule: &[u8]) {
         let want = expected::read_rule(rule);
         let got = raw::read_rule(rule);
-        let safe = gongcollar::read_rule(rule).map(|read| read.weight);
-        let fault =
-            unlike(got, want).or_else(|| unlike_safe(safe, want.refused, want.place, want.weight));
+        let safe = gongcollar::read_rule(rule).map(|x| (x.weight, x.uses.bits()));
+        let fault = unlike(got, want)
+            .or_else(|| unlike_safe(safe, want.refused, want.place, (want.weight, want.uses)));
         let fault = fault.map(|text| format!("rule {}: {text}", hex(rule)));
         let outcome = Outcome::of(want.refused, "accepted");
         self.report.note("read_rule", sort, outcome, fault);
@@ -49,10 +49,18 @@ impl Trials {
         let mut safe_table = table.clone();
         let want = expected::build(rule, &mut expected_table);
         let got = raw::build(rule, &mut table);
-        let safe = gongcollar::build_into(rule, &mut safe_table).map(|x| (x.weight, x.finals));
+        let safe = gongcollar::build_into(rule, &mut safe_table)
+            .map(|x| ((x.weight, x.finals), x.uses.bits()));
         let fault = unlike(got, want)
             .or_else(|| difference("table", &table, &expected_table))
-            .or_else(|| unlike_safe(safe, want.refused, want.place, (want.weight, want.finals)))
+            .or_else(|| {
+                unlike_safe(
+                    safe,
+                    want.refused,
+                    want.place,
+                    ((want.weight, want.finals), want.uses),
+                )
+            })
             .or_else(|| difference("safe table", &safe_table, &expected_table));
         let fault =
             fault.map(|text| format!("rule {}, {} entries: {text}", hex(rule), table.len()));
@@ -127,11 +135,11 @@ impl Trials {
         let want = expected::search(rule, model, &mut expected_slices);
         let got = raw::search(rule, model, &mut slices.lent());
         let safe = gongcollar::search_into(rule, model, safe_slices.lent())
-            .map(|x| (x.run.map(<[u8]>::to_vec), x.pairs));
+            .map(|x| (x.run.map(<[u8]>::to_vec), x.pairs, x.uses.bits()));
         let run = expected_run(&want, &expected_slices);
         let fault = unlike(got, want)
             .or_else(|| slices.difference(&expected_slices))
-            .or_else(|| unlike_safe(safe, want.refused, want.place, (run, want.pairs)))
+            .or_else(|| unlike_safe(safe, want.refused, want.place, (run, want.pairs, want.uses)))
             .or_else(|| safe_slices.difference(&expected_slices));
         let fault = fault.map(|text| {
             let lengths = slices.lengths();

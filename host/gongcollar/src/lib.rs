@@ -17,6 +17,7 @@
 
 mod lines;
 mod models;
+mod propositions;
 #[allow(unsafe_code)]
 pub mod raw;
 mod refusal;
@@ -26,6 +27,7 @@ mod texts;
 
 pub use lines::{rulecheck, rulecheck_into};
 pub use models::{read_model, search_into, Lent, ModelInfo, Searched, Workspace};
+pub use propositions::Propositions;
 pub use refusal::Refusal;
 pub use rules::{judge, read_rule, RuleInfo};
 pub use tables::{build_into, follow, Built, Stepped, Table, Walker};

@@ -12,7 +12,7 @@ use crate::LINE_BYTES;
 ///     0x03, 0x10, 0x01, 0x00,
 ///     0x20, 0x01, 0x01, 0x01, 0, 0, 0, 0, 0, 0, 0,
 /// ];
-/// assert_eq!(gongcollar::rulecheck(&input), "found 1 pairs 1: 0");
+/// assert_eq!(gongcollar::rulecheck(&input), "found 1 pairs 1: 0 uses 0");
 /// assert_eq!(gongcollar::rulecheck(&[]), "refused 2 at 0");
 /// ```
 pub fn rulecheck(input: &[u8]) -> String {
@@ -25,7 +25,7 @@ pub fn rulecheck(input: &[u8]) -> String {
 ///
 /// ```
 /// let mut out = [0; gongcollar::LINE_BYTES];
-/// assert_eq!(gongcollar::rulecheck_into(&[1, 0x11], &mut out), Some(&b"none pairs 0"[..]));
+/// assert_eq!(gongcollar::rulecheck_into(&[1, 0x11], &mut out), Some(&b"none pairs 0 uses -"[..]));
 /// assert_eq!(gongcollar::rulecheck_into(&[1, 0x11], &mut [0; 100]), None);
 /// ```
 pub fn rulecheck_into<'a>(input: &[u8], out: &'a mut [u8]) -> Option<&'a [u8]> {

@@ -3,7 +3,7 @@
 pub use crate::raw::Lent;
 
 use crate::raw;
-use crate::{Refusal, ENTRIES};
+use crate::{Propositions, Refusal, ENTRIES};
 
 /// What is known of an accepted model.
 #[derive(Debug, Clone, Copy, PartialEq, Eq)]
@@ -37,6 +37,8 @@ pub struct Searched<'a> {
     pub run: Option<&'a [u8]>,
     /// The number of pairs of a model state and a table state that were reached.
     pub pairs: u64,
+    /// The propositions that the rule names.
+    pub uses: Propositions,
 }
 
 /// Searches the model for a run that matches the rule, over lent slices of [`ENTRIES`] entries or more each.
@@ -70,6 +72,7 @@ pub fn search_into<'a>(
     let searched = Searched {
         run,
         pairs: answer.pairs,
+        uses: Propositions::from_bits(answer.uses),
     };
     Refusal::unless(answer.refused, answer.place, searched)
 }
@@ -96,6 +99,7 @@ pub(crate) fn front(slice: &[u8], length: u64) -> &[u8] {
 /// let searched = workspace.search(&rule, &model)?;
 /// assert_eq!(searched.run, Some(&[0, 1, 2][..]));
 /// assert_eq!(searched.pairs, 3);
+/// assert_eq!(searched.uses.to_string(), "p0 p1 p2");
 /// # Ok::<(), gongcollar::Refusal>(())
 /// ```
 #[derive(Debug, Clone)]

@@ -18,6 +18,8 @@ pub struct Rule {
     pub place: u64,
     /// The number of states of the rule's table.
     pub weight: u64,
+    /// The propositions that the rule names, bit i for proposition i.
+    pub uses: u64,
 }
 
 /// What `gc_build` answers.
@@ -32,6 +34,8 @@ pub struct Built {
     pub weight: u64,
     /// The set of final states, bit q for state q.
     pub finals: u64,
+    /// The propositions that the rule names, bit i for proposition i.
+    pub uses: u64,
 }
 
 /// What `gc_judge` answers.
@@ -44,6 +48,8 @@ pub struct Judged {
     pub place: u64,
     /// 1 if the rule accepts the letters, else 0.
     pub accepts: u64,
+    /// The propositions that the rule names, bit i for proposition i.
+    pub uses: u64,
 }
 
 /// What `gc_step` answers.
@@ -98,6 +104,8 @@ pub struct Searched {
     pub length: u64,
     /// The number of pairs of a model state and a table state that were reached.
     pub pairs: u64,
+    /// The propositions that the rule names, bit i for proposition i.
+    pub uses: u64,
 }
 
 /// What `gc_read_text` and `gc_write_text` answer.
@@ -112,6 +120,8 @@ pub struct Text {
     pub length: u64,
     /// The number of states of the rule's table.
     pub weight: u64,
+    /// The propositions that the rule names, bit i for proposition i.
+    pub uses: u64,
 }
 
 /// What a search is lent. Each slice wants [`ENTRIES`](crate::ENTRIES) entries or more.

@@ -1,7 +1,7 @@
 //! Rules: what is known of one, and the plain judge.
 
 use crate::raw;
-use crate::Refusal;
+use crate::{Propositions, Refusal};
 
 /// What is known of an accepted rule.
 #[derive(Debug, Clone, Copy, PartialEq, Eq)]
@@ -9,6 +9,8 @@ use crate::Refusal;
 pub struct RuleInfo {
     /// The number of states of its table, 1 to 64.
     pub weight: u64,
+    /// The propositions that it names, whether or not they matter to its meaning.
+    pub uses: Propositions,
 }
 
 /// Reads a rule.
@@ -16,7 +18,9 @@ pub struct RuleInfo {
 /// ```
 /// // p0;{p1[*];p2}
 /// let rule = [0x12, 0x10, 0x01, 0x00, 0x12, 0x17, 0x10, 0x01, 0x01, 0x10, 0x01, 0x02];
-/// assert_eq!(gongcollar::read_rule(&rule)?.weight, 6);
+/// let info = gongcollar::read_rule(&rule)?;
+/// assert_eq!(info.weight, 6);
+/// assert_eq!(info.uses.to_string(), "p0 p1 p2");
 ///
 /// let refusal = gongcollar::read_rule(&rule[..3]).unwrap_err();
 /// assert_eq!((refusal.number(), refusal.place()), (2, 3));
@@ -26,6 +30,7 @@ pub fn read_rule(rule: &[u8]) -> Result<RuleInfo, Refusal> {
     let answer = raw::read_rule(rule);
     let info = RuleInfo {
         weight: answer.weight,
+        uses: Propositions::from_bits(answer.uses),
     };
     Refusal::unless(answer.refused, answer.place, info)
 }

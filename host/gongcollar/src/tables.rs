@@ -1,7 +1,7 @@
 //! Tables: a rule's automaton, and a walker that follows events through it.
 
 use crate::raw;
-use crate::{Refusal, ENTRIES, STATES};
+use crate::{Propositions, Refusal, ENTRIES, STATES};
 
 /// What is known of a built table beside its labels.
 #[derive(Debug, Clone, Copy, PartialEq, Eq)]
@@ -11,6 +11,8 @@ pub struct Built {
     pub weight: u64,
     /// The set of final states, bit q for state q.
     pub finals: u64,
+    /// The propositions that the rule names.
+    pub uses: Propositions,
 }
 
 /// Builds the rule's table into a lent slice of [`ENTRIES`] entries or more; those past the first 4,096 stay.
@@ -28,6 +30,7 @@ pub fn build_into(rule: &[u8], table: &mut [u64]) -> Result<Built, Refusal> {
     let built = Built {
         weight: answer.weight,
         finals: answer.finals,
+        uses: Propositions::from_bits(answer.uses),
     };
     Refusal::unless(answer.refused, answer.place, built)
 }
@@ -69,6 +72,11 @@ impl Table {
     /// The set of final states, bit q for state q.
     pub fn finals(&self) -> u64 {
         self.built.finals
+    }
+
+    /// The propositions that the rule names.
+    pub fn uses(&self) -> Propositions {
+        self.built.uses
     }
 
     /// The label from one state to another: bit x is set if letter x leads there. 0 where there is no such state.

@@ -3,7 +3,7 @@
 use crate::models::front;
 use crate::raw;
 use crate::rules::{read_rule, RuleInfo};
-use crate::{Refusal, RULE_BYTES, TEXT_BYTES};
+use crate::{Propositions, Refusal, RULE_BYTES, TEXT_BYTES};
 use std::fmt;
 use std::str::FromStr;
 
@@ -62,6 +62,11 @@ impl Rule {
     /// The number of states of the rule's table, 1 to 64.
     pub fn weight(&self) -> u64 {
         self.info.weight
+    }
+
+    /// The propositions that the rule names, whether or not they matter to its meaning.
+    pub fn uses(&self) -> Propositions {
+        self.info.uses
     }
 
     /// What is known of the rule.
@@ -138,6 +143,7 @@ pub fn write_text_into<'a>(
 fn written(answer: raw::Text, out: &[u8]) -> Result<(&[u8], RuleInfo), Refusal> {
     let info = RuleInfo {
         weight: answer.weight,
+        uses: Propositions::from_bits(answer.uses),
     };
     Refusal::unless(
         answer.refused,

@@ -38,6 +38,16 @@ impl Formula {
         }
     }
 
+    /// The set of the propositions that stand in the formula, whether or not they matter.
+    pub fn names(&self) -> u64 {
+        match self {
+            Formula::Proposition(number) => only(*number as usize),
+            Formula::True | Formula::False => 0,
+            Formula::Not(a) => a.names(),
+            Formula::And(a, b) | Formula::Or(a, b) => a.names() | b.names(),
+        }
+    }
+
     /// The set of letters in which the formula holds, found by trying each letter.
     pub fn label(&self) -> u64 {
         (0..WORD)

@@ -41,6 +41,20 @@ impl Rule {
             Rule::Star(a) | Rule::Plus(a) => a.weight(),
         }
     }
+
+    /// The set of the propositions that stand in the rule, whether or not they matter.
+    pub fn names(&self) -> u64 {
+        match self {
+            Rule::Letter(formula) => formula.names(),
+            Rule::Empty => 0,
+            Rule::Then(a, b)
+            | Rule::Overlap(a, b)
+            | Rule::Or(a, b)
+            | Rule::LooseAnd(a, b)
+            | Rule::EqualAnd(a, b) => a.names() | b.names(),
+            Rule::Star(a) | Rule::Plus(a) => a.names(),
+        }
+    }
 }
 
 /// 2mn + 2m + 2n + 1: the rule that `&` is built as joins m(n+2) and (m+2)n states under a new one.

@@ -15,13 +15,15 @@ const LONGEST_TEXT: usize = 1280;
 /// The most bytes that a rule may have.
 const LONGEST_RULE: usize = 255;
 
-/// What reading or writing a text gives: what is written to the output, and the rule's weight.
+/// What reading or writing a text gives: what is written to the output, the rule's weight, and what stands in it.
 #[derive(Debug, Clone, PartialEq, Eq)]
 pub struct Given {
     /// The bytes of the rule, or the characters of its text.
     pub written: Vec<u8>,
     /// The number of states of the rule's table.
     pub weight: u64,
+    /// The propositions that stand in the rule, bit i for proposition i.
+    pub names: u64,
 }
 
 /// Reads a text, for an output of so many bytes.
@@ -37,8 +39,8 @@ pub fn read_text(text: &[u8], room: usize) -> Result<Given, Refusal> {
         return Err(Refusal::at(RULE_TOO_LONG, 0));
     }
     // The bytes of a text are a rule's, so that only the weight can be at fault.
-    let ReadRule { weight, .. } = read_rule(&written).map_err(|_| Refusal::at(TOO_HEAVY, 0))?;
-    given(written, weight, room)
+    let read = read_rule(&written).map_err(|_| Refusal::at(TOO_HEAVY, 0))?;
+    given(written, &read, room)
 }
 
 /// Writes the text of a rule's bytes, for an output of so many characters.
@@ -46,14 +48,18 @@ pub fn write_text(rule: &[u8], room: usize) -> Result<Given, Refusal> {
     let read = read_rule(rule)?;
     let mut written = String::new();
     put_rule(&read.rule, &mut written);
-    given(written.into_bytes(), read.weight, room)
+    given(written.into_bytes(), &read, room)
 }
 
-fn given(written: Vec<u8>, weight: u64, room: usize) -> Result<Given, Refusal> {
+fn given(written: Vec<u8>, read: &ReadRule, room: usize) -> Result<Given, Refusal> {
     if written.len() > room {
         return Err(Refusal::at(OUTPUT_TOO_SHORT, 0));
     }
-    Ok(Given { written, weight })
+    Ok(Given {
+        written,
+        weight: read.weight,
+        names: read.rule.names(),
+    })
 }
 
 fn put_rule(rule: &Rule, out: &mut String) {

@@ -81,10 +81,10 @@ fn the_version_goes_with_the_page() {
     let Interface { answers, calls } = interface();
     let fields = answers.iter().map(|answer| answer.fields.len()).sum();
     let parameters = calls.iter().map(|call| call.parameters.len()).sum();
-    assert_eq!(version, ["3"]);
+    assert_eq!(version, ["4"]);
     assert_eq!(
         [answers.len(), fields, calls.len(), parameters],
-        [8, 29, 10, 46]
+        [8, 34, 10, 46]
     );
 }
 
@@ -93,7 +93,7 @@ fn the_header_is_read_as_it_is_written() {
     let Interface { answers, calls } = interface();
     let built = answers.iter().find(|answer| answer.name == "gc_built");
     let word = "uint64_t";
-    let fields = ["refused", "place", "weight", "finals"].map(|name| part(name, word));
+    let fields = ["refused", "place", "weight", "finals", "uses"].map(|name| part(name, word));
     assert_eq!(built.map(|built| &built.fields[..]), Some(&fields[..]));
     let build = calls.iter().find(|call| call.name == "gc_build").unwrap();
     let parameters = [

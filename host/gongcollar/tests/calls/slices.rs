@@ -136,7 +136,7 @@ fn a_line_ends_at_its_length() {
     let input = line_input(&RULE, &three_states());
     let mut out = vec![JUNK; LINE_BYTES + 100];
     let line = rulecheck_into(&input, &mut out).unwrap();
-    assert_eq!(line, b"found 3 pairs 3: 0 1 2");
+    assert_eq!(line, b"found 3 pairs 3: 0 1 2 uses 0 1 2");
     let length = line.len();
     assert!(junk(&out[length..]));
     for short in [0, 1, LINE_BYTES - 1] {

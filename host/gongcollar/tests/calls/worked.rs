@@ -116,18 +116,18 @@ fn the_worked_search() {
 fn the_worked_lines() {
     assert_eq!(
         rulecheck(&line_input(&RULE, &three_states())),
-        "found 3 pairs 3: 0 1 2"
+        "found 3 pairs 3: 0 1 2 uses 0 1 2"
     );
     assert_eq!(
         rulecheck(&line_input(&RULE, &two_of_three())),
-        "none pairs 2"
+        "none pairs 2 uses 0 1 2"
     );
     assert_eq!(
         rulecheck(&line_input(&one_too_heavy(), &[])),
         "refused 7 at 0"
     );
     assert_eq!(rulecheck(&[]), "refused 2 at 0");
-    assert_eq!(rulecheck(&[0xFF, 0x11]), "none pairs 0");
+    assert_eq!(rulecheck(&[0xFF, 0x11]), "none pairs 0 uses -");
 }
 
 #[test]
@@ -154,7 +154,7 @@ fn a_long_run_is_printed_whole() {
     assert_eq!(searched.run, Some(&run[..]));
     assert_eq!(searched.pairs, 1955);
     let states: Vec<String> = run.iter().map(u8::to_string).collect();
-    let line = format!("found 1954 pairs 1955: {}", states.join(" "));
+    let line = format!("found 1954 pairs 1955: {} uses 0", states.join(" "));
     assert_eq!(rulecheck(&line_input(&rule, &ring)), line);
 }
 

@@ -27,7 +27,7 @@ pub fn example() -> Vec<u8> {
 }
 
 /// What is said of it.
-pub const EXAMPLE_LINE: &str = "found 3 pairs 3: 0 1 2";
+pub const EXAMPLE_LINE: &str = "found 3 pairs 3: 0 1 2 uses 0 1 2";
 
 /// A pipe that these bytes come through, to its end.
 pub fn piped(bytes: Vec<u8>) -> PipeReader {

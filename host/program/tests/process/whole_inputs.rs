@@ -30,7 +30,7 @@ fn the_example() {
         &[0; 8],
     ]
     .concat();
-    start(piped(none)).end().says("none pairs 2");
+    start(piped(none)).end().says("none pairs 2 uses 0 1 2");
 }
 
 #[test]

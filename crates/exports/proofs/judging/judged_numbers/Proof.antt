@@ -11,8 +11,8 @@ use Rattle.exports.proofs.judging.judged_numbers.Tie as tie
 enum-known-answer : tie.Need-enum-known-answer
 enum-known-answer c = search needs
 
-cast-t5 : tie.Need-cast-t5
-cast-t5 c = search needs
+cast-t6 : tie.Need-cast-t6
+cast-t6 c = search needs
 
 enum-known-answer-2 : tie.Need-enum-known-answer-2
 enum-known-answer-2 c = search needs
@@ -34,7 +34,7 @@ judged-numbers-spec =
     tie.close
     (tie.spec
     enum-known-answer
-    cast-t5
+    cast-t6
     enum-known-answer-2
     number-requires
     place-requires

@@ -1,6 +1,6 @@
 -- `put_answer` writes the line of what a search came to, by its cases. Assumes nothing.
 use native.Mathlib.Omega.{arith}
-use Rattle.lines.proofs.Cases.{found-fits, none-fits, refused-fits, found-says, none-says, refused-says}
+use Rattle.lines.proofs.Cases.{searched-fits, uses-fits, refused-fits, answered-says, refused-says}
 use borrow.Author.Needs.{needs}
 use Rattle.lines.proofs.answers.put_answer.Statement.{statement}
 use Rattle.lines.proofs.answers.put_answer.Tie as tie
@@ -8,21 +8,15 @@ use Rattle.lines.proofs.answers.put_answer.Tie as tie
 enum-known-answer : tie.Need-enum-known-answer
 enum-known-answer c = search needs
 
-enum-known-searched : tie.Need-enum-known-searched
-enum-known-searched c = search needs
+put-searched-requires : tie.Need-put-searched-requires
+put-searched-requires c κs =
+    let s = c .before .before .before .before .before .before in
+    searched-fits (s .args .answer) (s .args .run .now) (s .args .out .now) (s .pre) (c .before .before .answer .given .1)
 
-put-found-requires : tie.Need-put-found-requires
-put-found-requires c κs =
-    let s = c .before .before .before .before .before .before .before .before .before in
-    found-fits (s .args .answer) (s .args .run .now) (s .args .out .now) (s .pre) _ _ (c .before .before .before .before .before .answer .given .1) (c .before .before .searched .given .1) (omega arith) (omega arith)
-
-enum-known-searched-2 : tie.Need-enum-known-searched-2
-enum-known-searched-2 c = search needs
-
-put-none-requires : tie.Need-put-none-requires
-put-none-requires c κs =
-    let s = c .before .before .before .before .before .before .before .before .before in
-    none-fits (s .args .answer) (s .args .run .now) (s .args .out .now) (s .pre) _ (omega arith)
+put-uses-requires : tie.Need-put-uses-requires
+put-uses-requires c κs =
+    let s = c .before .before .before .before .before .before .before .before .before .before in
+    uses-fits (s .args .answer) (s .args .run .now) (s .args .out .now) (s .pre) (c .before .before .before .put-searched .ensures)
 
 enum-known-answer-2 : tie.Need-enum-known-answer-2
 enum-known-answer-2 c = search needs
@@ -43,34 +37,24 @@ same-length c = search needs
 
 returns : tie.Need-returns
 returns c =
-    let s = c .before .before .before .before .before .before .before .before .before .before .before .before in
-    found-says (s .args .answer) (s .args .run .now) _ _ (c .before .before .before .before .before .before .before .before .answer .given .1) (c .before .before .before .before .before .searched .given .1) (c .before .before .put-found .ensures)
+    let s = c .before .before .before .before .before .before .before .before .before .before .before .before .before in
+    answered-says (s .args .answer) (s .args .run .now) (s .args .out .now) (s .pre) (c .before .before .before .before .before .before .before .before .before .answer .given .1) (c .before .before .before .before .before .before .put-searched .ensures .0) (c .before .before .put-uses .ensures)
 
 same-length-2 : tie.Need-same-length-2
 same-length-2 c = search needs
 
 returns-2 : tie.Need-returns-2
 returns-2 c =
-    let s = c .before .before .before .before .before .before .before .before .before .before .before .before in
-    none-says (s .args .answer) (s .args .run .now) _ (c .before .before .before .before .before .before .before .before .answer .given .1) (c .before .before .before .before .before .searched2 .given .1) (c .before .before .put-none .ensures)
-
-same-length-3 : tie.Need-same-length-3
-same-length-3 c = search needs
-
-returns-3 : tie.Need-returns-3
-returns-3 c =
     let s = c .before .before .before .before .before .before .before .before .before .before .before in
-    refused-says (s .args .answer) (s .args .run .now) _ (c .before .before .before .before .before .before .before .answer2 .given .1) (c .before .before .before .before .number .ensures) (c .before .before .before .place .ensures) (c .before .before .put-refused .ensures)
+    refused-says (s .args .answer) (s .args .run .now) (s .args .out .now) (s .pre) _ (c .before .before .before .before .before .before .before .answer2 .given .1) (c .before .before .before .before .number .ensures) (c .before .before .before .place .ensures) (c .before .before .put-refused .ensures)
 
 pub put-answer-spec : {M : Type 1} → statement M
 put-answer-spec =
     tie.close
     (tie.spec
     enum-known-answer
-    enum-known-searched
-    put-found-requires
-    enum-known-searched-2
-    put-none-requires
+    put-searched-requires
+    put-uses-requires
     enum-known-answer-2
     number-requires
     place-requires
@@ -78,6 +62,4 @@ put-answer-spec =
     same-length
     returns
     same-length-2
-    returns-2
-    same-length-3
-    returns-3)
+    returns-2)

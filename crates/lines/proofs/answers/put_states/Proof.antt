@@ -18,11 +18,11 @@ abbrev μ-loop : tie.MeasureT-loop
 loop-holds : tie.Need-loop-holds Inv-loop μ-loop
 loop-holds c = (omega arith, states-none (c .before .before .args .run .now) _ _)
 
-shared-slice-read-put-state : tie.Need-shared-slice-read-put-state Inv-loop μ-loop
-shared-slice-read-put-state c = search needs
+shared-slice-read-put-entry : tie.Need-shared-slice-read-put-entry Inv-loop μ-loop
+shared-slice-read-put-entry c = search needs
 
-put-state-requires : tie.Need-put-state-requires Inv-loop μ-loop
-put-state-requires c κs =
+put-entry-requires : tie.Need-put-entry-requires Inv-loop μ-loop
+put-entry-requires c κs =
     let a = c .before .before .before in
     let s = a .before .before .before in
     state-room (s .args .run .now) (s .args .out .now) (s .args .at) (a .loop .i) (s .args .long) (s .pre .0) (s .pre .1) (a .loop .inv .1) (omega arith)
@@ -37,7 +37,7 @@ loop-again : tie.Need-loop-again Inv-loop μ-loop
 loop-again c =
     let a = c .before .before .before .before .before .before in
     let s = a .before .before .before in
-    (omega arith, state-turn (s .args .run .now) (s .args .out .now) (s .args .at) (a .loop .i) (s .args .long) (s .pre .0) (s .pre .1) (a .loop .inv .1) (omega arith) (c .before .before .put-state .ensures))
+    (omega arith, state-turn (s .args .run .now) (s .args .out .now) (s .args .at) (a .loop .i) (s .args .long) (s .pre .0) (s .pre .1) (a .loop .inv .1) (omega arith) (c .before .before .put-entry .ensures))
 
 same-length : tie.Need-same-length Inv-loop μ-loop
 same-length c = search needs
@@ -54,8 +54,8 @@ put-states-spec =
     Inv-loop
     μ-loop
     loop-holds
-    shared-slice-read-put-state
-    put-state-requires
+    shared-slice-read-put-entry
+    put-entry-requires
     add-i
     loop-less
     loop-again

@@ -14,7 +14,7 @@ use borrow.Fn.PlainCycle.{Measures, is, falls, and}
 use Rattle.rules.proofs.weights.weight_at.Reads as weight-at
 use Rattle.rules.proofs.weights.weight_at.Kinds as weight-at-kinds
 use Rattle.rules.proofs.weights.+weight_at.Lts-weight_at as weight-at-lts
-use Rattle.rules.proofs.ends.formula_past.Reads as formula-past-reads
+use Rattle.rules.proofs.names.names_at.Reads as names-at-reads
 use Rattle.rules.proofs.kinds.kind_of.Reads as kind-of-reads
 use Rattle.rules.proofs.weights.weight_of_pair.Reads as weight-of-pair-reads
 use Rattle.rules.proofs.weights.+weight_at.{statement}
@@ -31,7 +31,7 @@ weight-at-below t =
     and 1 weight-at-kinds.ps (falls 1 weight-at-kinds.ps _<_ μ-weight-at t) weight-at.Pre
 
 abbrev calls : ℕ → weight-at-lts.Claims
-calls t = (kind-of-reads.Asked, kind-of-reads.Learnt, formula-past-reads.Asked, formula-past-reads.Learnt, weight-at-below t, weight-at.Post, weight-of-pair-reads.Asked, weight-of-pair-reads.Learnt)
+calls t = (kind-of-reads.Asked, kind-of-reads.Learnt, names-at-reads.Asked, names-at-reads.Learnt, weight-at-below t, weight-at.Post, weight-of-pair-reads.Asked, weight-of-pair-reads.Learnt)
 
 weight-at-shared-slice-read-kind-of : (t : ℕ) → weight-at-lts.Need-shared-slice-read-kind-of (calls t) (weight-at-at t) weight-at.Post
 weight-at-shared-slice-read-kind-of t c = let s = c .before .before .args .rule .now in let at = c .before .before .args .at in let g = c .before .before .pre .1 in let l = rule-here s at g in l
@@ -51,11 +51,11 @@ weight-at-enum-known-k t c = search needs
 weight-at-enum-told-3 : (t : ℕ) → weight-at-lts.Need-enum-told-3 (calls t) (weight-at-at t) weight-at.Post
 weight-at-enum-told-3 t c = search needs
 
-weight-at-add-formula-past : (t : ℕ) → weight-at-lts.Need-add-formula-past (calls t) (weight-at-at t) weight-at.Post
-weight-at-add-formula-past t c = let s = c .before .before .before .before .before .before .before .before .args .rule .now in let at = c .before .before .before .before .before .before .before .before .args .at in let g = c .before .before .before .before .before .before .before .before .pre .1 in let l = rule-here s at g in omega arith
+weight-at-add-names-at : (t : ℕ) → weight-at-lts.Need-add-names-at (calls t) (weight-at-at t) weight-at.Post
+weight-at-add-names-at t c = let s = c .before .before .before .before .before .before .before .before .args .rule .now in let at = c .before .before .before .before .before .before .before .before .args .at in let g = c .before .before .before .before .before .before .before .before .pre .1 in let l = rule-here s at g in omega arith
 
-weight-at-formula-past-requires : (t : ℕ) → weight-at-lts.Need-formula-past-requires (calls t) (weight-at-at t) weight-at.Post
-weight-at-formula-past-requires t c κs = let s = c .before .before .before .before .before .before .before .before .args .rule .now in let at = c .before .before .before .before .before .before .before .before .args .at in let g = c .before .before .before .before .before .before .before .before .pre .1 in let l = rule-here s at g in let q : kindOf (getD s at 0) ≡ OfRule Letter = sym (c .before .before .before .before .before .kind-of .ensures) ∙ c .before .before .before .k .given .1 ∙ ap OfRule (c .enum-told3 .given .1) in good-letter s at g q
+weight-at-names-at-requires : (t : ℕ) → weight-at-lts.Need-names-at-requires (calls t) (weight-at-at t) weight-at.Post
+weight-at-names-at-requires t c κs = let s = c .before .before .before .before .before .before .before .before .args .rule .now in let at = c .before .before .before .before .before .before .before .before .args .at in let g = c .before .before .before .before .before .before .before .before .pre .1 in let l = rule-here s at g in let q : kindOf (getD s at 0) ≡ OfRule Letter = sym (c .before .before .before .before .before .kind-of .ensures) ∙ c .before .before .before .k .given .1 ∙ ap OfRule (c .enum-told3 .given .1) in good-letter s at g q
 
 weight-at-enum-told-4 : (t : ℕ) → weight-at-lts.Need-enum-told-4 (calls t) (weight-at-at t) weight-at.Post
 weight-at-enum-told-4 t c = search needs
@@ -82,10 +82,10 @@ weight-at-weight-at-requires-2 : (t : ℕ) → weight-at-lts.Need-weight-at-requ
 weight-at-weight-at-requires-2 t c κs = let s = c .before .before .before .before .before .before .before .before .before .args .rule .now in let at = c .before .before .before .before .before .before .before .before .before .args .at in let g = c .before .before .before .before .before .before .before .before .before .pre .1 in let l = rule-here s at g in let q : kindOf (getD s at 0) ≡ OfRule (Two (c .before .k2 .given .0 .0)) = sym (c .before .before .before .before .before .before .kind-of .ensures) ∙ c .before .before .before .before .k .given .1 ∙ ap OfRule (c .before .k2 .given .1) in (omega arith, good-first s at g _ q)
 
 weight-at-weight-at-requires-3 : (t : ℕ) → weight-at-lts.Need-weight-at-requires-3 (calls t) (weight-at-at t) weight-at.Post
-weight-at-weight-at-requires-3 t c κs = let s = c .before .before .before .before .before .before .before .before .before .before .args .rule .now in let at = c .before .before .before .before .before .before .before .before .before .before .args .at in let g = c .before .before .before .before .before .before .before .before .before .before .pre .1 in let l = rule-here s at g in let q : kindOf (getD s at 0) ≡ OfRule (Two (c .before .before .k2 .given .0 .0)) = sym (c .before .before .before .before .before .before .before .kind-of .ensures) ∙ c .before .before .before .before .before .k .given .1 ∙ ap OfRule (c .before .before .k2 .given .1) in let h = good-second s at g _ q (c .weight-at2 .result .end) (λ a e d. c .weight-at2 .ensures a e d .1) in (omega arith, h .0)
+weight-at-weight-at-requires-3 t c κs = let s = c .before .before .before .before .before .before .before .before .before .before .args .rule .now in let at = c .before .before .before .before .before .before .before .before .before .before .args .at in let g = c .before .before .before .before .before .before .before .before .before .before .pre .1 in let l = rule-here s at g in let q : kindOf (getD s at 0) ≡ OfRule (Two (c .before .before .k2 .given .0 .0)) = sym (c .before .before .before .before .before .before .before .kind-of .ensures) ∙ c .before .before .before .before .before .k .given .1 ∙ ap OfRule (c .before .before .k2 .given .1) in let h = good-second s at g _ q (c .weight-at2 .result .end) (λ a e d. c .weight-at2 .ensures a e d .2) in (omega arith, h .0)
 
 weight-at-weight-of-pair-requires : (t : ℕ) → weight-at-lts.Need-weight-of-pair-requires (calls t) (weight-at-at t) weight-at.Post
-weight-at-weight-of-pair-requires t c κs = let s = c .before .before .before .before .before .before .before .before .before .before .before .args .rule .now in let at = c .before .before .before .before .before .before .before .before .before .before .before .args .at in let g = c .before .before .before .before .before .before .before .before .before .before .before .pre .1 in let l = rule-here s at g in let q : kindOf (getD s at 0) ≡ OfRule (Two (c .before .before .before .k2 .given .0 .0)) = sym (c .before .before .before .before .before .before .before .before .kind-of .ensures) ∙ c .before .before .before .before .before .before .k .given .1 ∙ ap OfRule (c .before .before .before .k2 .given .1) in let a = good-first s at g _ q in let b = good-second s at g _ q (c .before .weight-at2 .result .end) (λ a e d. c .before .weight-at2 .ensures a e d .1) in (capped-small _ _ (c .before .weight-at2 .ensures (a .0) (a .1) (a .2) .0), capped-small _ _ (c .weight-at3 .ensures (b .0 .0) (b .0 .1) (b .0 .2) .0))
+weight-at-weight-of-pair-requires t c κs = let s = c .before .before .before .before .before .before .before .before .before .before .before .args .rule .now in let at = c .before .before .before .before .before .before .before .before .before .before .before .args .at in let g = c .before .before .before .before .before .before .before .before .before .before .before .pre .1 in let l = rule-here s at g in let q : kindOf (getD s at 0) ≡ OfRule (Two (c .before .before .before .k2 .given .0 .0)) = sym (c .before .before .before .before .before .before .before .before .kind-of .ensures) ∙ c .before .before .before .before .before .before .k .given .1 ∙ ap OfRule (c .before .before .before .k2 .given .1) in let a = good-first s at g _ q in let b = good-second s at g _ q (c .before .weight-at2 .result .end) (λ a e d. c .before .weight-at2 .ensures a e d .2) in (capped-small _ _ (c .before .weight-at2 .ensures (a .0) (a .1) (a .2) .0), capped-small _ _ (c .weight-at3 .ensures (b .0 .0) (b .0 .1) (b .0 .2) .0))
 
 weight-at-returns : (t : ℕ) → weight-at-lts.Need-returns (calls t) (weight-at-at t) weight-at.Post
 weight-at-returns t c = let s = c .before .before .before .before .before .args .rule .now in let at = c .before .before .before .before .before .args .at in let g = c .before .before .before .before .before .pre .1 in let l = rule-here s at g in let q : kindOf (getD s at 0) ≡ Unknown = sym (c .before .before .kind-of .ensures) ∙ c .enum-told .given .1 in absurd (not-unknown s at g q)
@@ -94,7 +94,7 @@ weight-at-returns-2 : (t : ℕ) → weight-at-lts.Need-returns-2 (calls t) (weig
 weight-at-returns-2 t c = let s = c .before .before .before .before .before .args .rule .now in let at = c .before .before .before .before .before .args .at in let g = c .before .before .before .before .before .pre .1 in let l = rule-here s at g in let q : kindOf (getD s at 0) ≡ OfFormula (c .enum-told2 .given .0 .0) = sym (c .before .before .kind-of .ensures) ∙ c .enum-told2 .given .1 in absurd (not-formula s at g _ q)
 
 weight-at-returns-3 : (t : ℕ) → weight-at-lts.Need-returns-3 (calls t) (weight-at-at t) weight-at.Post
-weight-at-returns-3 t c = let s = c .before .before .before .before .before .before .before .before .before .args .rule .now in let at = c .before .before .before .before .before .before .before .before .before .args .at in let g = c .before .before .before .before .before .before .before .before .before .pre .1 in let l = rule-here s at g in let q : kindOf (getD s at 0) ≡ OfRule Letter = sym (c .before .before .before .before .before .before .kind-of .ensures) ∙ c .before .before .before .before .k .given .1 ∙ ap OfRule (c .before .enum-told3 .given .1) in w-letter s at q (c .formula-past .result) (c .formula-past .ensures)
+weight-at-returns-3 t c = let s = c .before .before .before .before .before .before .before .before .before .args .rule .now in let at = c .before .before .before .before .before .before .before .before .before .args .at in let g = c .before .before .before .before .before .before .before .before .before .pre .1 in let l = rule-here s at g in let q : kindOf (getD s at 0) ≡ OfRule Letter = sym (c .before .before .before .before .before .before .kind-of .ensures) ∙ c .before .before .before .before .k .given .1 ∙ ap OfRule (c .before .enum-told3 .given .1) in w-letter s at q (c .names-at .result) (c .names-at .ensures)
 
 weight-at-returns-4 : (t : ℕ) → weight-at-lts.Need-returns-4 (calls t) (weight-at-at t) weight-at.Post
 weight-at-returns-4 t c = let s = c .before .before .before .before .before .before .before .before .args .rule .now in let at = c .before .before .before .before .before .before .before .before .args .at in let g = c .before .before .before .before .before .before .before .before .pre .1 in let l = rule-here s at g in let q : kindOf (getD s at 0) ≡ OfRule Empty = sym (c .before .before .before .before .before .kind-of .ensures) ∙ c .before .before .before .k .given .1 ∙ ap OfRule (c .enum-told4 .given .1) in w-empty s at q
@@ -103,7 +103,12 @@ weight-at-returns-5 : (t : ℕ) → weight-at-lts.Need-returns-5 (calls t) (weig
 weight-at-returns-5 t c = let s = c .before .before .before .before .before .before .before .before .before .args .rule .now in let at = c .before .before .before .before .before .before .before .before .before .args .at in let g = c .before .before .before .before .before .before .before .before .before .pre .1 in let l = rule-here s at g in let q : kindOf (getD s at 0) ≡ OfRule (Again (c .before .enum-told5 .given .0 .0)) = sym (c .before .before .before .before .before .before .kind-of .ensures) ∙ c .before .before .before .before .k .given .1 ∙ ap OfRule (c .before .enum-told5 .given .1) in w-again s at _ q (c .weight-at .result) (c .weight-at .ensures)
 
 weight-at-returns-6 : (t : ℕ) → weight-at-lts.Need-returns-6 (calls t) (weight-at-at t) weight-at.Post
-weight-at-returns-6 t c = let s = c .before .before .before .before .before .before .before .before .before .before .before .before .args .rule .now in let at = c .before .before .before .before .before .before .before .before .before .before .before .before .args .at in let g = c .before .before .before .before .before .before .before .before .before .before .before .before .pre .1 in let l = rule-here s at g in let q : kindOf (getD s at 0) ≡ OfRule (Two (c .before .before .before .before .k2 .given .0 .0)) = sym (c .before .before .before .before .before .before .before .before .before .kind-of .ensures) ∙ c .before .before .before .before .before .before .before .k .given .1 ∙ ap OfRule (c .before .before .before .before .k2 .given .1) in w-two s at _ q (c .before .before .weight-at2 .result) (c .before .weight-at3 .result) (c .before .before .weight-at2 .ensures) (c .before .weight-at3 .ensures) (c .weight-of-pair .result) (c .weight-of-pair .ensures)
+weight-at-returns-6 t c =
+    let z = c .before .before .before .before .before .before .before .before .before .before .before .before .before .before in
+    let s = z .args .rule .now in
+    let at = z .args .at in
+    let q : kindOf (getD s at 0) ≡ OfRule (Two (c .before .before .before .before .before .before .k2 .given .0 .0)) = sym (c .before .before .before .before .before .before .before .before .before .before .before .kind-of .ensures) ∙ c .before .before .before .before .before .before .before .before .before .k .given .1 ∙ ap OfRule (c .before .before .before .before .before .before .k2 .given .1) in
+    w-two s at _ q (c .before .before .before .before .weight-at2 .result) (c .before .before .before .weight-at3 .result) (c .before .before .before .before .weight-at2 .ensures) (c .before .before .before .weight-at3 .ensures) (c .before .before .weight-of-pair .result) (c .before .before .weight-of-pair .ensures)
 
 pub +weight-at-spec : {M : Type 1} → statement M
 +weight-at-spec = close μ-weight-at λ t. weight-at-lts.spec (calls t)
@@ -115,8 +120,8 @@ pub +weight-at-spec : {M : Type 1} → statement M
     (weight-at-enum-told-2 t)
     (weight-at-enum-known-k t)
     (weight-at-enum-told-3 t)
-    (weight-at-add-formula-past t)
-    (weight-at-formula-past-requires t)
+    (weight-at-add-names-at t)
+    (weight-at-names-at-requires t)
     (weight-at-enum-told-4 t)
     (weight-at-add-t15 t)
     (weight-at-enum-told-5 t)

@@ -1,21 +1,21 @@
--- `put_state` writes a blank and the number of a state. Assumes nothing.
+-- `put_entry` writes a blank and a number. Assumes nothing.
 use native.Mathlib.Omega.{arith}
 use mathlib.Core.List.{[], _∷_}
 use Rattle.writing.specs.Decimal.{decimal}
 use Rattle.writing.proofs.Wrotes.{wrote-more, first-room, then-room}
 use borrow.Author.Needs.{needs}
-use Rattle.lines.proofs.answers.put_state.Statement.{statement}
-use Rattle.lines.proofs.answers.put_state.Tie as tie
+use Rattle.lines.proofs.answers.put_entry.Statement.{statement}
+use Rattle.lines.proofs.answers.put_entry.Tie as tie
 
 put-byte-requires : tie.Need-put-byte-requires
 put-byte-requires c κs =
     let s = c .before .before in
-    omega (arith, first-room (32 ∷ []) (decimal (s .args .state)) (s .args .out .now) (s .args .at) (s .pre))
+    omega (arith, first-room (32 ∷ []) (decimal (s .args .number)) (s .args .out .now) (s .args .at) (s .pre))
 
 put-number-requires : tie.Need-put-number-requires
 put-number-requires c κs =
     let s = c .before .before .before .before .before .before in
-    then-room (32 ∷ []) (decimal (s .args .state)) (s .args .out .now) (s .args .at) (s .pre) (c .before .before .before .put-byte .ensures)
+    then-room (32 ∷ []) (decimal (s .args .number)) (s .args .out .now) (s .args .at) (s .pre) (c .before .before .before .put-byte .ensures)
 
 same-length : tie.Need-same-length
 same-length c = search needs
@@ -25,5 +25,5 @@ returns c =
     let s = c .before .before .before .before .before .before .before .before .before in
     wrote-more (omega (arith, s .pre)) (c .before .before .before .before .before .before .put-byte .ensures) (c .before .before .put-number .ensures)
 
-pub put-state-spec : {M : Type 1} → statement M
-put-state-spec = tie.close (tie.spec put-byte-requires put-number-requires same-length returns)
+pub put-entry-spec : {M : Type 1} → statement M
+put-entry-spec = tie.close (tie.spec put-byte-requires put-number-requires same-length returns)
