@@ -14,6 +14,11 @@ const OUTPUT_ROOM: usize = LINE_ROOM + 1;
 
 const NEWLINE: u8 = 10;
 
+// What standard error says before the system's own words.
+const INPUT_FAILED: [u8; 55] = *b"rulecheck: standard input could not be read, no verdict";
+
+const OUTPUT_FAILED: [u8; 59] = *b"rulecheck: standard output could not be written, no verdict";
+
 // All but the system's calls: the first `long` bytes of `space` were read, and `out` is to begin with what is printed, so many bytes of it.
 fn printed(space: &[u8], long: usize, out: &mut [u8]) -> usize
     requires { ⌜ Lent (now space) long (now out) ⌝ }
@@ -31,10 +36,8 @@ fn main() {
     match input {
         Input::Whole(long) => {
             let end = printed(&space, long, &mut out);
-            if !streams::write_output(&out[..end]) {
-                os::fail(b"rulecheck: standard output could not be written, no verdict");
-            }
+            streams::print(&out[..end], &OUTPUT_FAILED);
         }
-        Input::Failed => os::fail(b"rulecheck: standard input could not be read, no verdict"),
+        Input::Failed => os::fail(&INPUT_FAILED),
     }
 }

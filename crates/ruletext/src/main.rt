@@ -10,6 +10,11 @@ use writing::front;
 // A text of 1,280 characters, one more, and a newline: what comes after never changes the line.
 const INPUT_ROOM: usize = 1282;
 
+// What standard error says before the system's own words.
+const INPUT_FAILED: [u8; 53] = *b"ruletext: standard input could not be read, no answer";
+
+const OUTPUT_FAILED: [u8; 57] = *b"ruletext: standard output could not be written, no answer";
+
 // All but the system's calls: the first `long` bytes of `space` were read, and `out` is to begin with what is printed, so many bytes of it.
 fn printed(space: &[u8], long: usize, out: &mut [u8]) -> usize
     requires { ⌜ Lent (now space) long (now out) ⌝ }
@@ -25,10 +30,8 @@ fn main() {
     match input {
         Input::Whole(long) => {
             let end = printed(&space, long, &mut out);
-            if !streams::write_output(front(&out, end)) {
-                os::fail(b"ruletext: standard output could not be written, no answer");
-            }
+            streams::print(front(&out, end), &OUTPUT_FAILED);
         }
-        Input::Failed => os::fail(b"ruletext: standard input could not be read, no answer"),
+        Input::Failed => os::fail(&INPUT_FAILED),
     }
 }

@@ -81,10 +81,17 @@ pub fn read_input(space: &mut [u8]) -> Input
     Input::Failed
 }
 
-// Writes all of `bytes` to standard output and closes it, which may be where the system tells of a failed write; false where either fails.
-pub fn write_output(bytes: &[u8]) -> bool {
+// Writes all of `bytes` to standard output and closes it, which may be where the system tells of a failed write; whether both went well.
+fn write_output(bytes: &[u8]) -> bool {
     if !io::write_all(STDOUT_FILENO, bytes) {
         return false;
     }
     libc::close(STDOUT_FILENO) == 0
+}
+
+// Prints `bytes`; where that fails, standard error has a line that says so, in the words of `failed` and the system's.
+pub fn print(bytes: &[u8], failed: &[u8]) {
+    if !write_output(bytes) {
+        os::fail(failed);
+    }
 }

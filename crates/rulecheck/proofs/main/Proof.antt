@@ -26,11 +26,17 @@ printed-requires c κs = let k = c .before .before .before .before .before .befo
 array-share-prefix-out : tie.Need-array-share-prefix-out
 array-share-prefix-out c = search needs
 
-slice-aggregate-write-output : tie.Need-slice-aggregate-write-output
-slice-aggregate-write-output c = simp length-take (omega arith)
+slice-aggregate-print : tie.Need-slice-aggregate-print
+slice-aggregate-print c = simp length-take (omega arith)
 
-write-output-requires : tie.Need-write-output-requires
-write-output-requires c κs = search needs
+slice-aggregate-print-2 : tie.Need-slice-aggregate-print-2
+slice-aggregate-print-2 c = search needs
+
+print-requires : tie.Need-print-requires
+print-requires c κs = search needs
+
+enum-told : tie.Need-enum-told
+enum-told c = search needs
 
 slice-aggregate-fail : tie.Need-slice-aggregate-fail
 slice-aggregate-fail c = search needs
@@ -38,23 +44,11 @@ slice-aggregate-fail c = search needs
 fail-requires : tie.Need-fail-requires
 fail-requires c κs = search needs
 
-enum-told : tie.Need-enum-told
-enum-told c = search needs
-
-slice-aggregate-fail-2 : tie.Need-slice-aggregate-fail-2
-slice-aggregate-fail-2 c = search needs
-
-fail-requires-2 : tie.Need-fail-requires-2
-fail-requires-2 c κs = search needs
-
 returns : tie.Need-returns
 returns c = search needs
 
 returns-2 : tie.Need-returns-2
 returns-2 c = search needs
-
-returns-3 : tie.Need-returns-3
-returns-3 c = search needs
 
 pub main-spec : {M : Type 1} → statement M
 main-spec =
@@ -67,13 +61,11 @@ main-spec =
     slice-aggregate-printed-2
     printed-requires
     array-share-prefix-out
-    slice-aggregate-write-output
-    write-output-requires
+    slice-aggregate-print
+    slice-aggregate-print-2
+    print-requires
+    enum-told
     slice-aggregate-fail
     fail-requires
-    enum-told
-    slice-aggregate-fail-2
-    fail-requires-2
     returns
-    returns-2
-    returns-3)
+    returns-2)

@@ -19,8 +19,7 @@ slice-aggregate-printed-2 : tie.Need-slice-aggregate-printed-2
 slice-aggregate-printed-2 c = search needs
 
 printed-requires : tie.Need-printed-requires
-printed-requires c κs =
-    let k = c .before .before .before .before .before .before .read-input .ensures .fits (c .before .before .before .input .given .0 .0) (c .before .before .before .input .given .1) in search needs
+printed-requires c κs = let k = c .before .before .before .before .before .before .read-input .ensures .fits (c .before .before .before .input .given .0 .0) (c .before .before .before .input .given .1) in search needs
 
 slice-aggregate-front : tie.Need-slice-aggregate-front
 slice-aggregate-front c = search needs
@@ -28,8 +27,14 @@ slice-aggregate-front c = search needs
 front-requires : tie.Need-front-requires
 front-requires c κs = search needs
 
-write-output-requires : tie.Need-write-output-requires
-write-output-requires c κs = search needs
+slice-aggregate-print : tie.Need-slice-aggregate-print
+slice-aggregate-print c = search needs
+
+print-requires : tie.Need-print-requires
+print-requires c κs = search needs
+
+enum-told : tie.Need-enum-told
+enum-told c = search needs
 
 slice-aggregate-fail : tie.Need-slice-aggregate-fail
 slice-aggregate-fail c = search needs
@@ -37,23 +42,11 @@ slice-aggregate-fail c = search needs
 fail-requires : tie.Need-fail-requires
 fail-requires c κs = search needs
 
-enum-told : tie.Need-enum-told
-enum-told c = search needs
-
-slice-aggregate-fail-2 : tie.Need-slice-aggregate-fail-2
-slice-aggregate-fail-2 c = search needs
-
-fail-requires-2 : tie.Need-fail-requires-2
-fail-requires-2 c κs = search needs
-
 returns : tie.Need-returns
 returns c = search needs
 
 returns-2 : tie.Need-returns-2
 returns-2 c = search needs
-
-returns-3 : tie.Need-returns-3
-returns-3 c = search needs
 
 pub main-spec : {M : Type 1} → statement M
 main-spec =
@@ -67,12 +60,10 @@ main-spec =
     printed-requires
     slice-aggregate-front
     front-requires
-    write-output-requires
+    slice-aggregate-print
+    print-requires
+    enum-told
     slice-aggregate-fail
     fail-requires
-    enum-told
-    slice-aggregate-fail-2
-    fail-requires-2
     returns
-    returns-2
-    returns-3)
+    returns-2)
