@@ -22,10 +22,7 @@ pub fn run() {
     ];
     println!();
     println!("The label of one letter. {AT_ONCE} calls are timed at once, {ROUNDS} times, of which the middle one counts.");
-    println!("A reader goes over a formula's bytes twice, a builder three times before it works out the label: what");
-    println!(
-        "building takes beside reading is its time without one and a half times the reader's."
-    );
+    println!("A builder reads the rule first: what building takes beside reading is its time without the reader's.");
     println!();
     println!(
         "{:<30}{:>10}{:>10}{:>10}{:>20}",
@@ -35,7 +32,7 @@ pub fn run() {
     for (name, formula) in &cases {
         let rule = nested(LETTER, 1, formula);
         let (read, build) = times(&rule);
-        let beside = build.saturating_sub(read * 3 / 2);
+        let beside = build.saturating_sub(read);
         let first = *first.get_or_insert(beside);
         println!(
             "{name:<30}{:>10}{:>10}{:>10}{:>20.1}",
