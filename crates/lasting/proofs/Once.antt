@@ -8,16 +8,22 @@ use Rattle.bits.specs.Word.{bit}
 use Rattle.bits.proofs.Laws.{ext}
 use Rattle.bits.proofs.Truths.{same-truth}
 use Rattle.models.specs.declared.Refusal.the-variants.{TooMany, WrongKind, CutShort, LetterTooLarge, WrongFlag, NoSuchState}
+use Rattle.models.specs.declared.ModelData.{ModelData}
 use Rattle.models.specs.Answer as models
 use Rattle.models.proofs.Once as models-once
 use Rattle.lasting.specs.declared.LastingAnswer.{LastingAnswer}
 use Rattle.lasting.specs.declared.LastingAnswer.the-variants.{Lasting, Refused}
 use Rattle.lasting.specs.Endless.{EndlessSet}
+use Rattle.lasting.specs.inner.Stored.{aliveData, WithoutDeadEnds}
 use Rattle.lasting.specs.Answer.{Result, lasts, refused, told, LastingRight, model-refused, lasting}
 
 pub one-set : {n : ℕ} {next : ℕ → ℕ → Bool} (w v : ℕ) → EndlessSet n next w → EndlessSet n next v → w ≡ v
 one-set w v x y =
     ext 64 w v (x .small) (y .small) (λ s l. same-truth (bit w s) (bit v s) (λ b. y .members .has s (x .members .holds s b)) (λ b. x .members .has s (y .members .holds s b)))
+
+-- there is one model without dead ends, as it is stored
+pub one-alive : (m r r′ : ModelData) → WithoutDeadEnds m r → WithoutDeadEnds m r′ → r ≡ r′
+one-alive m r r′ x y = x .stored ∙ ap (aliveData m) (one-set (x .set) (y .set) (x .exactly) (y .exactly)) ∙ sym (y .stored)
 
 one-result : (g : List ℕ) {x y : Result} → LastingRight g x → LastingRight g y → x ≡ y
 one-result g (model-refused v) (model-refused v′) = cc
