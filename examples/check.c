@@ -1,5 +1,5 @@
-/* A host in C: searches a small model for a run that matches a rule, shows a refusal, and follows events by the rule's
- * table. From the repository's root:
+/* A host in C: searches a small model for a run that matches a rule, shows a refusal, tells which states are half drawn,
+ * and follows events by the rule's table. From the repository's root:
  *
  *     rt staticlib exports
  *     cc -Iinclude examples/check.c target/staticlib/libexports.a -o target/check && target/check
@@ -9,8 +9,8 @@
 #include <inttypes.h>
 #include <stdio.h>
 
-#if GONGCOLLAR_VERSION < 2
-#error "gc_follow came with version 2 of the header"
+#if GONGCOLLAR_VERSION < 5
+#error "gc_lasting came with version 5 of the header"
 #endif
 
 enum { ENTRIES = 4096 };
@@ -22,7 +22,7 @@ static const uint8_t rule[] = {0x12, 0x10, 0x01, 0x00, 0x12, 0x17, 0x10, 0x01, 0
 static const uint8_t model[] = {
     0x20, 0x01, 0x01, 0x02, 0, 0, 0, 0, 0, 0, 0, /* state 0: p0, initial, goes to state 1 */
     0x20, 0x02, 0x00, 0x06, 0, 0, 0, 0, 0, 0, 0, /* state 1: p1, goes to states 1 and 2 */
-    0x20, 0x04, 0x00, 0x00, 0, 0, 0, 0, 0, 0, 0, /* state 2: p2, goes nowhere */
+    0x20, 0x04, 0x00, 0x01, 0, 0, 0, 0, 0, 0, 0, /* state 2: p2, goes to state 0 */
 };
 
 /* what a search is lent; it can be lent again and again */
@@ -50,6 +50,27 @@ static void show(const char *what, gc_searched answer) {
     printf("; %" PRIu64 " pairs\n", answer.pairs);
 }
 
+/* the same model, but state 2 goes nowhere */
+static const uint8_t half_drawn[] = {
+    0x20, 0x01, 0x01, 0x02, 0, 0, 0, 0, 0, 0, 0,
+    0x20, 0x02, 0x00, 0x06, 0, 0, 0, 0, 0, 0, 0,
+    0x20, 0x04, 0x00, 0x00, 0, 0, 0, 0, 0, 0, 0,
+};
+
+static void tell_dead_ends(const char *what, const uint8_t *bytes, size_t count) {
+    gc_lasts answer = gc_lasting(bytes, count);
+    printf("%s: ", what);
+    if (answer.refused) {
+        printf("refused %" PRIu64 " at %" PRIu64 "\n", answer.refused, answer.place);
+        return;
+    }
+    printf("of %" PRIu64 " states no endless run leaves:", answer.states);
+    for (uint64_t s = 0; s < answer.states; s++)
+        if (!(answer.lasting >> s & 1))
+            printf(" %" PRIu64, s);
+    printf("\n");
+}
+
 /* whether the rule accepts the events; its table stands in `table` and has these finals */
 static void follow(const char *what, uint64_t finals, const uint8_t *events, size_t count) {
     gc_moved answer = gc_follow(table, ENTRIES, finals, events, count);
@@ -64,6 +85,8 @@ int main(void) {
     show("the whole model", search(sizeof rule, sizeof model));
     show("a model with no states", search(sizeof rule, 0));
     show("a rule without its last byte", search(sizeof rule - 1, sizeof model));
+
+    tell_dead_ends("a half-drawn job", half_drawn, sizeof half_drawn);
 
     /* p0, p1, p1, p2, and a byte that is no letter */
     static const uint8_t events[] = {1, 2, 2, 4, 64};

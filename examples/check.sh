@@ -17,7 +17,7 @@ text=${1-"{p0;{{p1}[*];p2}}"}
 # each state: its kind, its letter, whether it is initial, and the set of its successors in 8 bytes, lowest first
 model=${2-"20 01 01  02 00 00 00 00 00 00 00
            20 02 00  06 00 00 00 00 00 00 00
-           20 04 00  00 00 00 00 00 00 00 00"}
+           20 04 00  01 00 00 00 00 00 00 00"}
 
 stop() {
     echo "check.sh: $1" >&2

@@ -21,7 +21,7 @@
 /* The number of this page. It goes up by one whenever a call or a field is added or changed, so that a host can ask
  * at compile time for the page it was written against, as by `#if GONGCOLLAR_VERSION < 2`. (The page before the first
  * number had no gc_follow.) The archive has no number of its own: take both from one commit. */
-#define GONGCOLLAR_VERSION 4
+#define GONGCOLLAR_VERSION 5
 
 #ifdef __cplusplus
 extern "C" {
@@ -35,6 +35,7 @@ typedef struct { uint64_t refused, place, accepts, uses; } gc_judged;
 typedef struct { uint64_t refused, place, set, matched; } gc_stepped;
 typedef struct { uint64_t refused, place, matches; } gc_moved;
 typedef struct { uint64_t refused, place, states; } gc_model;
+typedef struct { uint64_t refused, place, states, lasting; } gc_lasts;
 typedef struct { uint64_t refused, place, found, length, pairs, uses; } gc_searched;
 typedef struct { uint64_t refused, place, length, weight, uses; } gc_text;
 
@@ -48,6 +49,11 @@ gc_stepped gc_step(uint64_t set, uint64_t finals, const uint64_t *table, size_t 
  * holds no letter */
 gc_moved gc_follow(const uint64_t *table, size_t table_len, uint64_t finals, const uint8_t *letters, size_t letters_len);
 gc_model gc_read_model(const uint8_t *model, size_t model_len);
+/* `lasting` is the set of the model's states from which an endless run leaves, bit s for state s. Each other state is a
+ * dead end or leads to dead ends alone: a job that is half drawn. */
+gc_lasts gc_lasting(const uint8_t *model, size_t model_len);
+/* Only runs that can be continued for ever count: a search finds, shows and counts what it would in the model without the
+ * states that do not last. */
 gc_searched gc_search(const uint8_t *rule, size_t rule_len, const uint8_t *model, size_t model_len,
                       uint64_t *table, size_t table_len, uint16_t *work1, size_t work1_len,
                       uint16_t *work2, size_t work2_len, uint8_t *run, size_t run_len);

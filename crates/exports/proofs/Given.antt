@@ -15,6 +15,8 @@ use Rattle.walkers.specs.declared.StepAnswer.{StepAnswer}
 use Rattle.walkers.specs.declared.FollowAnswer.{FollowAnswer}
 use Rattle.walkers.specs.Steps as walkers
 use Rattle.walkers.specs.Walks.{ending}
+use Rattle.lasting.specs.declared.LastingAnswer.{LastingAnswer}
+use Rattle.lasting.specs.Answer as lasting
 use Rattle.search.specs.declared.SearchAnswer.{SearchAnswer}
 use Rattle.search.specs.declared.SearchAnswer.the-variants.{Answered}
 use Rattle.search.specs.declared.inner.Searched.{Searched}
@@ -27,8 +29,9 @@ use Rattle.exports.specs.declared.building.GcBuilt.{GcBuilt}
 use Rattle.exports.specs.declared.judging.GcJudged.{GcJudged}
 use Rattle.exports.specs.declared.stepping.GcStepped.{GcStepped}
 use Rattle.exports.specs.declared.following.GcMoved.{GcMoved}
+use Rattle.exports.specs.declared.lasting_states.GcLasts.{GcLasts}
 use Rattle.exports.specs.declared.searching.GcSearched.{GcSearched}
-use Rattle.exports.specs.Numbers.{ruleNumbers, stateNumbers, builtNumbers, judgedNumbers, stepNumbers, movedNumbers, searchedNumbers, textNumbers}
+use Rattle.exports.specs.Numbers.{ruleNumbers, stateNumbers, builtNumbers, judgedNumbers, stepNumbers, movedNumbers, lastingNumbers, searchedNumbers, textNumbers}
 use Rattle.exports.specs.declared.texting.GcText.{GcText}
 use Rattle.exports.specs.Promise.{GcSearches}
 
@@ -57,6 +60,9 @@ stepOf set a = stepNumbers set (walkers.outcome a)
 
 abbrev pub followOf : FollowAnswer → GcMoved
 followOf a = movedNumbers (ending a)
+
+abbrev pub lastingOf : LastingAnswer → GcLasts
+lastingOf a = lastingNumbers (lasting.told a)
 
 abbrev pub searchedOf : List ℕ → SearchAnswer → GcSearched
 searchedOf run a = searchedNumbers (search.told a run)

@@ -15,6 +15,9 @@ use Rattle.judge.proofs.Once as judge-once
 use Rattle.walkers.specs.Steps as walkers
 use Rattle.walkers.specs.Walks.{followOf}
 use Rattle.search.specs.declared.SearchAnswer.{SearchAnswer}
+use Rattle.lasting.specs.declared.LastingAnswer.{LastingAnswer}
+use Rattle.lasting.specs.Answer as lasting
+use Rattle.lasting.proofs.Once as lasting-once
 use Rattle.search.specs.Answer as search
 use Rattle.search.proofs.Once as search-once
 use Rattle.exports.specs.declared.reading.GcRule.{GcRule}
@@ -23,9 +26,10 @@ use Rattle.exports.specs.declared.building.GcBuilt.{GcBuilt}
 use Rattle.exports.specs.declared.judging.GcJudged.{GcJudged}
 use Rattle.exports.specs.declared.stepping.GcStepped.{GcStepped}
 use Rattle.exports.specs.declared.following.GcMoved.{GcMoved}
+use Rattle.exports.specs.declared.lasting_states.GcLasts.{GcLasts}
 use Rattle.exports.specs.declared.searching.GcSearched.{GcSearched}
-use Rattle.exports.specs.Numbers.{ruleNumbers, modelNumbers, builtNumbers, judgedNumbers, walker, steppedNumbers, movedNumbers, searchedNumbers, textNumbers}
-use Rattle.exports.specs.Promise.{GcBuilds, GcJudges, GcSearches, ReadsText, WritesText}
+use Rattle.exports.specs.Numbers.{ruleNumbers, modelNumbers, builtNumbers, judgedNumbers, walker, steppedNumbers, movedNumbers, lastingNumbers, searchedNumbers, textNumbers}
+use Rattle.exports.specs.Promise.{GcBuilds, GcJudges, GcLasting, GcSearches, ReadsText, WritesText}
 use Rattle.texts.specs.Answer as texts
 use Rattle.texts.proofs.Once as texts-once
 use Rattle.exports.specs.declared.texting.GcText.{GcText}
@@ -52,6 +56,11 @@ pub one-judgement : (s w : List ℕ) (r r′ : GcJudged) → GcJudges s w r → 
 one-judgement s w r r′ j j′ =
     let o = judge-once.one-answer s w (j .answer) (j′ .answer) (j .right) (j′ .right) in
     j .given ∙ ap (λ (a : JudgeAnswer). judgedNumbers (judge.told a)) o ∙ sym (j′ .given)
+
+pub one-lasting : (g : List ℕ) (r r′ : GcLasts) → GcLasting g r → GcLasting g r′ → r ≡ r′
+one-lasting g r r′ x x′ =
+    let o = lasting-once.one-answer g (x .answer) (x′ .answer) (x .right) (x′ .right) in
+    x .given ∙ ap (λ (a : LastingAnswer). lastingNumbers (lasting.told a)) o ∙ sym (x′ .given)
 
 pub one-search : (s g : List ℕ) (b a d : search.Slices) (r r′ : GcSearched) → Words (a .table) → Words (d .table) → GcSearches s g b a r → GcSearches s g b d r′ → (r ≡ r′) × (a ≡ d)
 one-search s g b a d r r′ ha hd x x′ =

@@ -8,6 +8,7 @@ use Rattle.tables.specs.Answer as tables
 use Rattle.judge.specs.Verdict as judge
 use Rattle.walkers.specs.declared.Walker.{Walker}
 use Rattle.walkers.specs.Steps as walkers
+use Rattle.lasting.specs.Answer as lasting
 use Rattle.search.specs.Right.{found, nothing}
 use Rattle.search.specs.Answer as search
 use Rattle.texts.specs.Answer as texts
@@ -17,6 +18,7 @@ use Rattle.exports.specs.declared.building.GcBuilt.{GcBuilt}
 use Rattle.exports.specs.declared.judging.GcJudged.{GcJudged}
 use Rattle.exports.specs.declared.stepping.GcStepped.{GcStepped}
 use Rattle.exports.specs.declared.following.GcMoved.{GcMoved}
+use Rattle.exports.specs.declared.lasting_states.GcLasts.{GcLasts}
 use Rattle.exports.specs.declared.searching.GcSearched.{GcSearched}
 use Rattle.exports.specs.declared.texting.GcText.{GcText}
 
@@ -60,6 +62,10 @@ steppedNumbers t = stepNumbers (t .walker .set) (t .says)
 abbrev pub movedNumbers : walkers.Outcome → GcMoved
 movedNumbers (walkers.flag b) = record { refused = 0; place = 0; matches = digit b }
 movedNumbers (walkers.refusal n p) = record { refused = n; place = p; matches = 0 }
+
+abbrev pub lastingNumbers : lasting.Result → GcLasts
+lastingNumbers (lasting.lasts n w) = record { refused = 0; place = 0; states = n; lasting = w }
+lastingNumbers (lasting.refused n p) = record { refused = n; place = p; states = 0; lasting = 0 }
 
 abbrev pub searchedNumbers : search.Result → GcSearched
 searchedNumbers (search.answered k n (found r c)) = record { refused = 0; place = 0; found = 1; length = n; pairs = c; uses = k .uses }

@@ -7,15 +7,18 @@ use Rattle.tables.specs.declared.TableAnswer.{TableAnswer}
 use Rattle.tables.specs.Answer as tables
 use Rattle.judge.specs.declared.JudgeAnswer.{JudgeAnswer}
 use Rattle.judge.specs.Verdict as judge
+use Rattle.lasting.specs.declared.LastingAnswer.{LastingAnswer}
+use Rattle.lasting.specs.Answer as lasting
 use Rattle.search.specs.declared.SearchAnswer.{SearchAnswer}
 use Rattle.search.specs.Answer as search
 use Rattle.texts.specs.declared.TextAnswer.{TextAnswer}
 use Rattle.texts.specs.Answer as texts
 use Rattle.exports.specs.declared.building.GcBuilt.{GcBuilt}
 use Rattle.exports.specs.declared.judging.GcJudged.{GcJudged}
+use Rattle.exports.specs.declared.lasting_states.GcLasts.{GcLasts}
 use Rattle.exports.specs.declared.searching.GcSearched.{GcSearched}
 use Rattle.exports.specs.declared.texting.GcText.{GcText}
-use Rattle.exports.specs.Numbers.{builtNumbers, judgedNumbers, searchedNumbers, textNumbers}
+use Rattle.exports.specs.Numbers.{builtNumbers, judgedNumbers, lastingNumbers, searchedNumbers, textNumbers}
 
 -- gc_build: the rule's bytes s, and the table slice before and after
 pub record GcBuilds (s t t′ : List ℕ) (r : GcBuilt) : Type 0 where
@@ -28,6 +31,12 @@ pub record GcJudges (s w : List ℕ) (r : GcJudged) : Type 0 where
   pub answer : JudgeAnswer
   pub right : judge.JudgeRight s w (judge.told answer)
   pub given : r ≡ judgedNumbers (judge.told answer)
+
+-- gc_lasting: the model's bytes g
+pub record GcLasting (g : List ℕ) (r : GcLasts) : Type 0 where
+  pub answer : LastingAnswer
+  pub right : lasting.LastingRight g (lasting.told answer)
+  pub given : r ≡ lastingNumbers (lasting.told answer)
 
 -- gc_search: the bytes of the rule and of the model, and the four slices before and after
 pub record GcSearches (rule model : List ℕ) (before after : search.Slices) (r : GcSearched) : Type 0 where

@@ -6,6 +6,7 @@ mod building; // a rule's table
 mod judging; // the plain judge
 mod stepping; // a walker
 mod following; // a whole sequence
+mod lasting_states; // which states of a model last
 mod searching; // a model, for a rule
 mod checking; // one input, as a line
 mod texting; // a rule as text

@@ -11,6 +11,7 @@ use Rattle.models.specs.Model.{Model}
 use Rattle.models.specs.Stored.{modelOf}
 use Rattle.models.specs.Answer as models
 use Rattle.models.proofs.Soundness.{answer-held}
+use Rattle.lasting.specs.Endless.{LastingRun}
 use Rattle.search.specs.declared.inner.Searched.the-variants.{Found, Nothing}
 use Rattle.search.specs.declared.SearchAnswer.{SearchAnswer}
 use Rattle.search.specs.declared.SearchAnswer.the-variants.{Answered, Refused}
@@ -49,8 +50,8 @@ module _ (rule model : List ℕ) (before after : Slices) (bytes : (i : ℕ) → 
   found-short (searched {f} {n} {r} e v l z) w =
       let g : r ≡ found run c = cc in
       let M : Model = modelOf (models.answer model .model) in
-      let right : Right M (tableOf (after .table) (weightOf f) (z .finals)) f (found run c) = subst (λ (y : Answer). Right M (tableOf (after .table) (weightOf f) (z .finals)) f y) g (z .right) in
-      (cc, states-short M (answer-held model bytes .sound .few) (M .initial) run (right .0 .matches .0 .1))
+      let right : Right LastingRun M (tableOf (after .table) (weightOf f) (z .finals)) f (found run c) = subst (λ (y : Answer). Right LastingRun M (tableOf (after .table) (weightOf f) (z .finals)) f y) g (z .right) in
+      (cc, states-short M (answer-held model bytes .sound .few) (M .initial) run (right .0 .matches .0 .0 .1))
 
 -- so the text of every answer has room
 pub search-fits : (rule model : List ℕ) (before after : Slices) → ((i : ℕ) → getD model i 0 < 256) → (answer : SearchAnswer) (out : List ℕ) → lineRoom ≤ length out → length (after .run) ≡ 4096

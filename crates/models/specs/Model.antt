@@ -28,6 +28,15 @@ NonEmpty (s ∷ r) = Unit {0}
 abbrev pub Run : Model → List ℕ → Type 0
 Run M r = NonEmpty r × Walk M (M .initial) r
 
+-- the last state of a row that begins after state s
+abbrev pub lastFrom : ℕ → List ℕ → ℕ
+lastFrom s [] = s
+lastFrom s (t ∷ r) = lastFrom t r
+
+-- the state that a run ends in (of no run: 0)
+abbrev pub last : List ℕ → ℕ
+last r = lastFrom 0 r
+
 -- the letters that a run spells
 abbrev pub spelled : Model → List ℕ → List ℕ
 spelled M r = map (M .letter) r

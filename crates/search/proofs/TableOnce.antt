@@ -31,8 +31,8 @@ count-same f g (counted {n = n} p a) (passed q b) = absurd (q (f n p))
 count-same f g (passed {n = n} p a) (counted q b) = absurd (p (g n q))
 count-same f g (passed p a) (passed q b) = count-same f g a b
 
-shown-same : {M : Model} {f : Rule} {r u : List ℕ} → Shown M f r → Shown M f u → r ≡ u
-shown-same {M} {f} {r} {u} a b = go (a .first u (b .matches) (sym same)) (b .first r (a .matches) same)
+shown-same : {Runs : Model → List ℕ → Type 0} {M : Model} {f : Rule} {r u : List ℕ} → Shown Runs M f r → Shown Runs M f u → r ≡ u
+shown-same {r = r} {u = u} a b = go (a .first u (b .matches) (sym same)) (b .first r (a .matches) same)
   where
     same : length r ≡ length u
     same =
@@ -46,14 +46,14 @@ shown-same {M} {f} {r} {u} a b = go (a .first u (b .matches) (sym same)) (b .fir
     go (_⊎_.inr p) (_⊎_.inr q) = absurd (before-not-both p q)
 
 -- two right answers are one
-pub one-answer : (M : Model) (A : Table) (f : Rule) (a b : Answer) → Right M A f a → Right M A f b → a ≡ b
-one-answer M A f (found r c) (found u d) x y =
+pub one-answer : (Runs : Model → List ℕ → Type 0) (M : Model) (A : Table) (f : Rule) (a b : Answer) → Right Runs M A f a → Right Runs M A f b → a ≡ b
+one-answer Runs M A f (found r c) (found u d) x y =
     let e : r ≡ u = shown-same (x .0) (y .0) in
-    let k : c ≡ d = count-same (λ i w. subst (λ (v : List ℕ). Reached M A (λ k. k ≤ length v) (i / 64) (i % 64)) e w) (λ i w. subst (λ (v : List ℕ). Reached M A (λ k. k ≤ length v) (i / 64) (i % 64)) (sym e) w) (x .1) (y .1) in
+    let k : c ≡ d = count-same (λ i w. subst (λ (v : List ℕ). Reached Runs M A (λ k. k ≤ length v) (i / 64) (i % 64)) e w) (λ i w. subst (λ (v : List ℕ). Reached Runs M A (λ k. k ≤ length v) (i / 64) (i % 64)) (sym e) w) (x .1) (y .1) in
     ap₂ found e k
-one-answer M A f (found r c) (nothing d) x y = absurd (y .0 r (x .0 .matches))
-one-answer M A f (nothing c) (found u d) x y = absurd (x .0 u (y .0 .matches))
-one-answer M A f (nothing c) (nothing d) x y = ap nothing (count-same (λ i w. w) (λ i w. w) (x .1) (y .1))
+one-answer Runs M A f (found r c) (nothing d) x y = absurd (y .0 r (x .0 .matches))
+one-answer Runs M A f (nothing c) (found u d) x y = absurd (x .0 u (y .0 .matches))
+one-answer Runs M A f (nothing c) (nothing d) x y = ap nothing (count-same (λ i w. w) (λ i w. w) (x .1) (y .1))
 
 -- ---- and what was lent is left in one way
 
@@ -82,11 +82,11 @@ answers-same (Found l c) (Nothing d) run run₁ run₂ e x y = absurd (let z : _
 answers-same (Nothing c) (Found k d) run run₁ run₂ e x y = absurd (let z : _≡_ {A = ℕ} 0 1 = cc in omega arith)
 answers-same (Nothing c) (Nothing d) run run₁ run₂ e x y = (ap Nothing (ap pairs-of e), x ∙ sym y)
 
-module _ (M : Model) (A : Table) (f : Rule) (serves : Serves A f) (marks marks₁ marks₂ useful useful₁ useful₂ run run₁ run₂ : List ℕ) where
+module _ (Runs : Model → List ℕ → Type 0) (M : Model) (A : Table) (f : Rule) (serves : Serves A f) (marks marks₁ marks₂ useful useful₁ useful₂ run run₁ run₂ : List ℕ) where
   -- the search over a table that serves a rule: one answer, and one content of everything that is lent
-  pub one-search : (a b : Searched) → SearchedTable M A a marks marks₁ useful useful₁ run run₁ → SearchedTable M A b marks marks₂ useful useful₂ run run₂
+  pub one-search : (a b : Searched) → SearchedTable Runs M A a marks marks₁ useful useful₁ run run₁ → SearchedTable Runs M A b marks marks₂ useful useful₂ run run₂
       → (a ≡ b) × (marks₁ ≡ marks₂) × (useful₁ ≡ useful₂) × (run₁ ≡ run₂)
   one-search a b x y =
-      let e : answerOf a run₁ ≡ answerOf b run₂ = one-answer M A f (answerOf a run₁) (answerOf b run₂) (x .answers .right f serves) (y .answers .right f serves) in
+      let e : answerOf a run₁ ≡ answerOf b run₂ = one-answer Runs M A f (answerOf a run₁) (answerOf b run₂) (x .answers .right f serves) (y .answers .right f serves) in
       let r = answers-same a b run run₁ run₂ e (x .answers .run-kept) (y .answers .run-kept) in
       (r .0, cleared-same 4096 marks marks₁ marks₂ (x .marks-clear) (y .marks-clear), cleared-same 4096 useful useful₁ useful₂ (x .useful-clear) (y .useful-clear), r .1)

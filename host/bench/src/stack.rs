@@ -111,6 +111,9 @@ fn measure(rules: &[Vec<u8>]) -> io::Result<Vec<Deepest>> {
     each("read_model", &mut |_| {
         raw::read_model(&model);
     })?;
+    each("lasting", &mut |_| {
+        raw::lasting(&model);
+    })?;
     each("search", &mut |rule| {
         let mut lent = Lent {
             table: &mut table,

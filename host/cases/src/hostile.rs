@@ -219,7 +219,30 @@ pub fn letters() -> Vec<Vec<u8>> {
 
 /// All hostile models.
 pub fn models() -> Vec<Vec<u8>> {
-    [too_many(), cuts(), faults(), strays()].concat()
+    [too_many(), cuts(), faults(), strays(), chains()].concat()
+}
+
+/// All states in a row, from the first to the last and the other way, with each end that goes nowhere, to itself or back.
+fn chains() -> Vec<Vec<u8>> {
+    let mut models = Vec::new();
+    let last = MOST_STATES - 1;
+    for end in [0, 1 << last, 1, 1 << (MOST_STATES / 2)] {
+        let state = |at| State {
+            letter: at as u8,
+            flag: u8::from(at == 0),
+            successors: if at < last { 2u64 << at } else { end },
+        };
+        models.push(bytes_of(&(0..MOST_STATES).map(state).collect::<Vec<_>>()));
+    }
+    for end in [0, 1, 1 << last] {
+        let state = |at: usize| State {
+            letter: 1,
+            flag: u8::from(at == last),
+            successors: if at > 0 { 1 << (at - 1) } else { end },
+        };
+        models.push(bytes_of(&(0..MOST_STATES).map(state).collect::<Vec<_>>()));
+    }
+    models
 }
 
 /// 64 states and more.

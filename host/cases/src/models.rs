@@ -54,6 +54,8 @@ enum Ways {
     Ring,
     /// The next one, and from the last nowhere.
     Chain,
+    /// None up to two each: some states are dead ends.
+    Few,
 }
 
 /// A good model of 0 to 64 states.
@@ -80,6 +82,8 @@ pub fn states(draws: &mut Draws, count: usize) -> Vec<State> {
         Ways::Full,
         Ways::Ring,
         Ways::Chain,
+        Ways::Few,
+        Ways::Few,
     ]);
     let bound = draws.one_of(&[2, 4, 8, LETTERS]);
     let initial_once_in = draws.between(1, count.max(1));
@@ -99,11 +103,13 @@ fn successors(draws: &mut Draws, ways: Ways, at: usize, count: usize) -> u64 {
         Ways::Ring => 1 << ((at + 1) % count),
         Ways::Chain if at + 1 < count => 1 << (at + 1),
         Ways::Chain => 0,
+        Ways::Few => (0..draws.below(3)).fold(0, |set, _| set | 1 << draws.below(count)),
     }
 }
 
 /// A good model in which some run spells the letters, up to the 64th: one or more states for each letter, each of which
-/// leads to all those of the next and perhaps elsewhere, under shuffled numbers. No letters, no states.
+/// leads to all those of the next and perhaps elsewhere, under shuffled numbers. Those of the last letter mostly lead to
+/// some state; now and then they are dead ends, so that no run may be left. No letters, no states.
 pub fn spelling(draws: &mut Draws, letters: &[u8]) -> Vec<u8> {
     if letters.is_empty() {
         return Vec::new();
@@ -114,10 +120,17 @@ pub fn spelling(draws: &mut Draws, letters: &[u8]) -> Vec<u8> {
     }
     shuffle(draws, &mut steps);
     let stray_once_in = draws.one_of(&[1, 4, 1000]);
+    let on = match draws.once_in(8) {
+        true => 0,
+        false => 1 << draws.below(steps.len()),
+    };
     let state = |&step: &usize| State {
         letter: letters[step],
         flag: u8::from(step == 0),
-        successors: states_of(&steps, step + 1) | stray(draws, stray_once_in, steps.len()),
+        successors: match states_of(&steps, step + 1) {
+            0 => on,
+            next => next | stray(draws, stray_once_in, steps.len()),
+        },
     };
     bytes_of(&steps.iter().map(state).collect::<Vec<_>>())
 }

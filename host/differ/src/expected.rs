@@ -1,7 +1,7 @@
 //! The calls of [`gongcollar::raw`] as the plain library has them, the later content of lent slices included.
 
 use crate::lent::Slices;
-use gongcollar::raw::{Built, Judged, Model, Moved, Rule, Searched, Stepped};
+use gongcollar::raw::{Built, Judged, Lasts, Model, Moved, Rule, Searched, Stepped};
 use gongcollar::{ENTRIES, LINE_BYTES};
 use plain::Refusal;
 
@@ -105,6 +105,22 @@ pub fn read_model(model: &[u8]) -> Model {
             refused: number,
             place,
             ..Model::default()
+        },
+    }
+}
+
+/// What `lasting` should answer.
+pub fn lasting(model: &[u8]) -> Lasts {
+    match plain::lasting(model) {
+        Ok(told) => Lasts {
+            states: told.states,
+            lasting: told.set,
+            ..Lasts::default()
+        },
+        Err(Refusal { number, place }) => Lasts {
+            refused: number,
+            place,
+            ..Lasts::default()
         },
     }
 }

@@ -120,6 +120,7 @@ fn hostile_rules(trials: &mut Trials) {
 fn hostile_models(trials: &mut Trials) {
     for model in hostile::models() {
         trials.read_model("hostile", &model);
+        trials.lasting("hostile", &model);
         let rule = rules::accepted(&mut trials.draws);
         trials.search("hostile", &rule, &model);
         trials.line("hostile", &line_input(&rule, &model));
@@ -153,6 +154,7 @@ fn short(trials: &mut Trials) {
     for first in 0..=0xFF {
         trials.read_rule("short", &[first]);
         trials.read_model("short", &[first]);
+        trials.lasting("short", &[first]);
         trials.line("short", &[first]);
         for second in 0..=0xFF {
             trials.read_rule("short", &[first, second]);
@@ -165,10 +167,13 @@ fn good_and_bad_models(trials: &mut Trials) {
     for _ in 0..MODELS {
         let model = models::accepted(&mut trials.draws);
         trials.read_model("valid", &model);
+        trials.lasting("valid", &model);
         let damaged = damaged_more(&mut trials.draws, &model);
         trials.read_model("damaged", &damaged);
+        trials.lasting("damaged", &damaged);
         let random = any_bytes(&mut trials.draws, 720);
         trials.read_model("random", &random);
+        trials.lasting("random", &random);
     }
 }
 

@@ -127,6 +127,18 @@ impl Trials {
         self.report.note("read_model", sort, outcome, fault);
     }
 
+    /// Asks which states of a model last.
+    pub fn lasting(&mut self, sort: &'static str, model: &[u8]) {
+        let want = expected::lasting(model);
+        let got = raw::lasting(model);
+        let safe = gongcollar::lasting(model).map(|x| (x.states, x.set));
+        let fault = unlike(got, want)
+            .or_else(|| unlike_safe(safe, want.refused, want.place, (want.states, want.lasting)));
+        let fault = fault.map(|text| format!("model {}: {text}", hex(model)));
+        let outcome = Outcome::of(want.refused, how_many(&want));
+        self.report.note("lasting", sort, outcome, fault);
+    }
+
     /// Searches a model, over junk.
     pub fn search(&mut self, sort: &'static str, rule: &[u8], model: &[u8]) {
         let mut slices = Slices::drawn(&mut self.draws);
@@ -261,6 +273,15 @@ fn unlike_safe<T: PartialEq + Debug>(
         number => Err((number, place)),
     };
     unlike(safe, want)
+}
+
+/// Whether all states last, some or none.
+fn how_many(lasts: &raw::Lasts) -> &'static str {
+    match u64::from(lasts.lasting.count_ones()) {
+        0 => "none",
+        all if all == lasts.states => "all",
+        _ => "some",
+    }
 }
 
 fn yes_or_no(yes: bool) -> &'static str {

@@ -2,7 +2,8 @@
 //!
 //! A rule is a sequence expression of PSL, and a model a small set of states with letters and successors; both are
 //! given as bytes in the house form. [`Workspace::search`] tells whether some run of the model spells a sequence that
-//! the rule accepts, and shows the first shortest one. A [`Table`] and a [`Walker`] follow events as they come,
+//! the rule accepts, and shows the first shortest one; only runs that can be continued for ever count, and [`lasting`]
+//! tells which states these can enter. A [`Table`] and a [`Walker`] follow events as they come,
 //! [`Table::follow`] decides a whole sequence, and [`judge`] a short one with no table. Bad input is a [`Refusal`] with
 //! its number and its place.
 //!
@@ -26,7 +27,7 @@ mod tables;
 mod texts;
 
 pub use lines::{rulecheck, rulecheck_into};
-pub use models::{read_model, search_into, Lent, ModelInfo, Searched, Workspace};
+pub use models::{lasting, read_model, search_into, Lasting, Lent, ModelInfo, Searched, Workspace};
 pub use propositions::Propositions;
 pub use refusal::Refusal;
 pub use rules::{judge, read_rule, RuleInfo};

@@ -1,9 +1,9 @@
-//! Models: what is known of one, and the search for a run that matches a rule.
+//! Models: what is known of one, which of its states last, and the search for a run that matches a rule.
 
 pub use crate::raw::Lent;
 
 use crate::raw;
-use crate::{Propositions, Refusal, ENTRIES};
+use crate::{Propositions, Refusal, ENTRIES, STATES};
 
 /// What is known of an accepted model.
 #[derive(Debug, Clone, Copy, PartialEq, Eq)]
@@ -29,11 +29,51 @@ pub fn read_model(model: &[u8]) -> Result<ModelInfo, Refusal> {
     Refusal::unless(answer.refused, answer.place, info)
 }
 
+/// Which states of a model last: those from which an endless run leaves. No run that counts enters another.
+#[derive(Debug, Clone, Copy, PartialEq, Eq)]
+#[non_exhaustive]
+pub struct Lasting {
+    /// The number of states, 0 to 64.
+    pub states: u64,
+    /// The set of those that last, bit s for state s.
+    pub set: u64,
+}
+
+impl Lasting {
+    /// The states that do not last, in rising order: dead ends, and what leads to dead ends alone.
+    pub fn dead_ends(self) -> impl Iterator<Item = u64> {
+        (0..self.states.min(STATES as u64)).filter(move |state| self.set >> state & 1 == 0)
+    }
+}
+
+/// Tells which states of a model last.
+///
+/// ```
+/// let model = [
+///     0x20, 0x01, 0x01, 0x03, 0, 0, 0, 0, 0, 0, 0, // goes to itself and to state 1
+///     0x20, 0x02, 0x00, 0x04, 0, 0, 0, 0, 0, 0, 0, // goes to state 2
+///     0x20, 0x04, 0x00, 0x00, 0, 0, 0, 0, 0, 0, 0, // goes nowhere
+/// ];
+/// let lasting = gongcollar::lasting(&model)?;
+/// assert_eq!((lasting.states, lasting.set), (3, 0b001));
+/// assert!(lasting.dead_ends().eq([1, 2]));
+/// # Ok::<(), gongcollar::Refusal>(())
+/// ```
+pub fn lasting(model: &[u8]) -> Result<Lasting, Refusal> {
+    let answer = raw::lasting(model);
+    let lasting = Lasting {
+        states: answer.states,
+        set: answer.lasting,
+    };
+    Refusal::unless(answer.refused, answer.place, lasting)
+}
+
 /// What a search says.
 #[derive(Debug, Clone, Copy, PartialEq, Eq)]
 #[non_exhaustive]
 pub struct Searched<'a> {
-    /// The first shortest run that matches, by the numbers of its states; or that no run of any length does.
+    /// The first shortest run that matches, by the numbers of its states; or that no run of any length does. Only runs
+    /// that can be continued for ever count.
     pub run: Option<&'a [u8]>,
     /// The number of pairs of a model state and a table state that were reached.
     pub pairs: u64,
@@ -41,7 +81,8 @@ pub struct Searched<'a> {
     pub uses: Propositions,
 }
 
-/// Searches the model for a run that matches the rule, over lent slices of [`ENTRIES`] entries or more each.
+/// Searches the model for a run that matches the rule, over lent slices of [`ENTRIES`] entries or more each. Only runs
+/// that can be continued for ever count: see [`lasting`].
 ///
 /// After an answer the table slice begins with the rule's table, the first 4,096 entries of the working slices are 0,
 /// and the output begins with the run; all other entries are as they were. A refusal changes nothing.
@@ -93,7 +134,7 @@ pub(crate) fn front(slice: &[u8], length: u64) -> &[u8] {
 /// let model = [
 ///     0x20, 0x01, 0x01, 0x02, 0, 0, 0, 0, 0, 0, 0, // p0, initial, goes to state 1
 ///     0x20, 0x02, 0x00, 0x06, 0, 0, 0, 0, 0, 0, 0, // p1, goes to states 1 and 2
-///     0x20, 0x04, 0x00, 0x00, 0, 0, 0, 0, 0, 0, 0, // p2, goes nowhere
+///     0x20, 0x04, 0x00, 0x01, 0, 0, 0, 0, 0, 0, 0, // p2, goes to state 0
 /// ];
 /// let mut workspace = Workspace::new();
 /// let searched = workspace.search(&rule, &model)?;
@@ -121,7 +162,7 @@ impl Workspace {
         }
     }
 
-    /// Searches the model for a run that matches the rule.
+    /// Searches the model for a run that matches the rule and can be continued for ever.
     pub fn search(&mut self, rule: &[u8], model: &[u8]) -> Result<Searched<'_>, Refusal> {
         let lent = Lent {
             table: &mut self.table,

@@ -90,6 +90,20 @@ pub struct Model {
     pub states: u64,
 }
 
+/// What `gc_lasting` answers.
+#[repr(C)]
+#[derive(Debug, Clone, Copy, Default, PartialEq, Eq)]
+pub struct Lasts {
+    /// 0 for an answer, else the refusal's number.
+    pub refused: u64,
+    /// Where the refusal is.
+    pub place: u64,
+    /// The number of states.
+    pub states: u64,
+    /// The states from which an endless run leaves, bit s for state s.
+    pub lasting: u64,
+}
+
 /// What `gc_search` answers.
 #[repr(C)]
 #[derive(Debug, Clone, Copy, Default, PartialEq, Eq)]
@@ -138,7 +152,7 @@ pub struct Lent<'a> {
 }
 
 mod c {
-    use super::{Built, Judged, Model, Moved, Rule, Searched, Stepped, Text};
+    use super::{Built, Judged, Lasts, Model, Moved, Rule, Searched, Stepped, Text};
 
     extern "C" {
         pub fn gc_read_rule(rule: *const u8, rule_len: usize) -> Rule;
@@ -169,6 +183,7 @@ mod c {
             letters_len: usize,
         ) -> Moved;
         pub fn gc_read_model(model: *const u8, model_len: usize) -> Model;
+        pub fn gc_lasting(model: *const u8, model_len: usize) -> Lasts;
         pub fn gc_search(
             rule: *const u8,
             rule_len: usize,
@@ -260,6 +275,12 @@ pub fn read_model(model: &[u8]) -> Model {
     unsafe { c::gc_read_model(model.as_ptr(), model.len()) }
 }
 
+/// `gc_lasting`: the states of a model from which an endless run leaves.
+pub fn lasting(model: &[u8]) -> Lasts {
+    // SAFETY: one slice that is only read.
+    unsafe { c::gc_lasting(model.as_ptr(), model.len()) }
+}
+
 /// `gc_search`: the first shortest run of the model that matches the rule.
 pub fn search(rule: &[u8], model: &[u8], lent: &mut Lent<'_>) -> Searched {
     let model = apart(rule, model);
@@ -339,6 +360,7 @@ mod tests {
             assert_eq!(c::gc_step(1, 1, null(), 0, 0), step(1, 1, &[], 0));
             assert_eq!(c::gc_follow(null(), 0, 1, n, 0), follow(&[], 1, &[]));
             assert_eq!(c::gc_read_model(n, 0), read_model(&[]));
+            assert_eq!(c::gc_lasting(n, 0), lasting(&[]));
             let (w1, w2) = (null_mut(), null_mut());
             let searched = c::gc_search(rule.0, rule.1, n, 0, null_mut(), 0, w1, 0, w2, 0, m, 0);
             assert_eq!(searched, search(&empty, &[], &mut lent));

@@ -18,6 +18,7 @@
 //! | the automaton in the scope document's numbering | `table` | [`build`], [`Table`] |
 //! | the walker | `walk` | [`step`], [`follow`] |
 //! | bytes to models | `model` | [`read_model`], [`Model`] |
+//! | which states of a model last | `lasting` | [`lasting()`], [`Lasting`] |
 //! | the search and its count | `search` | [`search()`], [`Searched`] |
 //! | what rulecheck prints | `line` | [`line()`] |
 //! | rules as text | `text` | [`read_text`], [`write_text`], [`Given`] |
@@ -28,6 +29,7 @@
 mod bytes;
 mod formula;
 mod judge;
+mod lasting;
 mod line;
 mod meaning;
 mod model;
@@ -42,6 +44,7 @@ mod walk;
 
 pub use formula::Formula;
 pub use judge::judge;
+pub use lasting::{lasting, Lasting};
 pub use line::line;
 pub use meaning::accepts;
 pub use model::{read_model, Model};

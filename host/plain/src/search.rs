@@ -1,8 +1,8 @@
 //! The search: breadth first over the product of model and table.
 //!
 //! The product is the one of source document 002: from a pair of a model state and a table state one goes
-//! to a successor of the model state, and the table moves by that successor's letter. A model state
-//! without successors merely ends its runs.
+//! to a successor of the model state, and the table moves by that successor's letter. Only runs that can be
+//! continued for ever count, so the model is searched without the states from which no endless run leaves.
 
 use crate::model::{read_model, Model};
 use crate::reader::read_rule;
@@ -28,6 +28,7 @@ pub fn search(rule: &[u8], model: &[u8], slices: [usize; 4]) -> Result<Searched,
     if slices.iter().any(|&length| length < TABLE_ENTRIES) {
         return Err(Refusal::at(SLICE_TOO_SHORT, 0));
     }
+    let model = model.without_dead_ends();
     Ok(Product::new(&model, &table_of(&rule)).search())
 }
 

@@ -10,8 +10,13 @@ pub const RULE: [u8; 12] = [
 /// p1
 pub const P1: [u8; 3] = [0x10, 0x01, 0x01];
 
-/// Three states: p0, then p1 again and again, then p2, which is a dead end.
+/// Three states: p0, then p1 again and again, then p2, and p0 again.
 pub fn three_states() -> Vec<u8> {
+    [state(1, 1, 0b010), state(2, 0, 0b110), state(4, 0, 0b001)].concat()
+}
+
+/// The scope document's: the last state is a dead end.
+pub fn dead_end() -> Vec<u8> {
     [state(1, 1, 0b010), state(2, 0, 0b110), state(4, 0, 0)].concat()
 }
 

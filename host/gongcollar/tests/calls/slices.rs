@@ -1,6 +1,6 @@
 //! What becomes of lent slices: short ones, long ones, and all of them after a refusal.
 
-use crate::inputs::{three_states, two_of_three, RULE};
+use crate::inputs::{state, three_states, two_of_three, RULE};
 use cases::line_input;
 use gongcollar::{build_into, judge, raw, rulecheck_into, search_into};
 use gongcollar::{Lent, Refusal, Table, Workspace, ENTRIES, LINE_BYTES};
@@ -168,6 +168,12 @@ fn a_refusal_has_no_other_field() {
         ..Default::default()
     };
     assert_eq!(raw::judge(&[0x12], &[]), judged);
+    let lasts = raw::Lasts {
+        refused: 16,
+        place: 3,
+        ..Default::default()
+    };
+    assert_eq!(raw::lasting(&state(0, 1, 2)), lasts);
     let mut slices = Slices::of([ENTRIES; 4]);
     let searched = raw::Searched {
         refused,

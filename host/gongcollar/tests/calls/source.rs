@@ -92,8 +92,12 @@ fn exchanged_fields_and_parameters_are_seen() {
             "pub finals: u64, pub weight: u64",
         ),
         (
-            "pub refused: u64, pub place: u64, pub states",
-            "pub place: u64, pub refused: u64, pub states",
+            "pub refused: u64, pub place: u64, pub accepts",
+            "pub place: u64, pub refused: u64, pub accepts",
+        ),
+        (
+            "pub states: u64, pub lasting: u64",
+            "pub lasting: u64, pub states: u64",
         ),
         (
             "set: u64, finals: u64, table",

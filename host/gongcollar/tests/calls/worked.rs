@@ -1,10 +1,10 @@
 //! The worked examples of the scope document.
 
-use crate::inputs::{pair, state, three_states, two_of_three, P1, RULE};
+use crate::inputs::{dead_end, pair, state, three_states, two_of_three, P1, RULE};
 use cases::hostile::joined_left;
 use cases::rules::P0;
 use cases::{heavy, line_input, models};
-use gongcollar::{follow, judge, read_model, read_rule, rulecheck};
+use gongcollar::{follow, judge, lasting, read_model, read_rule, rulecheck};
 use gongcollar::{Refusal, Table, Walker, Workspace};
 
 const LABEL_P0: u64 = 0xAAAA_AAAA_AAAA_AAAA;
@@ -108,8 +108,10 @@ fn the_worked_search() {
     assert_eq!(found.run, Some(&[0, 1, 2][..]));
     assert_eq!(found.pairs, 3);
     assert_eq!(workspace.table(), Table::build(&RULE).unwrap().entries());
-    let none = workspace.search(&RULE, &two_of_three()).unwrap();
-    assert_eq!((none.run, none.pairs), (None, 2));
+    for model in [dead_end(), two_of_three()] {
+        let none = workspace.search(&RULE, &model).unwrap();
+        assert_eq!((none.run, none.pairs), (None, 2));
+    }
 }
 
 #[test]
@@ -118,16 +120,40 @@ fn the_worked_lines() {
         rulecheck(&line_input(&RULE, &three_states())),
         "found 3 pairs 3: 0 1 2 uses 0 1 2"
     );
-    assert_eq!(
-        rulecheck(&line_input(&RULE, &two_of_three())),
-        "none pairs 2 uses 0 1 2"
-    );
+    for model in [dead_end(), two_of_three()] {
+        assert_eq!(
+            rulecheck(&line_input(&RULE, &model)),
+            "none pairs 2 uses 0 1 2"
+        );
+    }
     assert_eq!(
         rulecheck(&line_input(&one_too_heavy(), &[])),
         "refused 7 at 0"
     );
     assert_eq!(rulecheck(&[]), "refused 2 at 0");
     assert_eq!(rulecheck(&[0xFF, 0x11]), "none pairs 0 uses -");
+}
+
+#[test]
+fn states_that_last() {
+    let set = |model: &[u8]| lasting(model).map(|x| (x.states, x.set));
+    assert_eq!(set(&three_states()), Ok((3, 0b111)));
+    assert_eq!(set(&dead_end()), Ok((3, 0b011)));
+    assert_eq!(set(&[]), Ok((0, 0)));
+    let dead: Vec<u64> = lasting(&dead_end()).unwrap().dead_ends().collect();
+    assert_eq!(dead, [2]);
+    // A chain of all states into a dead end, and the same with a loop at its end.
+    let chain = |last| -> Vec<u8> {
+        let way = |at: u64| if at < 63 { 2 << at } else { last };
+        (0..64).flat_map(|at| state(1, 1, way(at))).collect()
+    };
+    assert_eq!(set(&chain(0)), Ok((64, 0)));
+    assert_eq!(lasting(&chain(0)).unwrap().dead_ends().count(), 64);
+    assert_eq!(set(&chain(1 << 63)), Ok((64, u64::MAX)));
+    let line = |last| rulecheck(&line_input(&RULE, &chain(last)));
+    assert_eq!(line(0), "none pairs 0 uses 0 1 2");
+    assert_eq!(line(1 << 63), "none pairs 64 uses 0 1 2");
+    assert_eq!(set(&[0x20]), Err(Refusal::StateCutShort { place: 1 }));
 }
 
 #[test]

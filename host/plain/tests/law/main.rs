@@ -2,6 +2,7 @@
 //! finding the answer must agree.
 
 mod draw;
+mod lasting;
 mod lines;
 mod meanings;
 mod models;

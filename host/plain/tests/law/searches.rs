@@ -44,15 +44,17 @@ fn the_search_refuses_in_order() {
 
 #[test]
 fn the_worked_search() {
-    let states = |second| {
+    let states = |second, last| {
         [
             state(1, true, 2),
             state(2, false, second),
-            state(4, false, 0),
+            state(4, false, last),
         ]
     };
-    hold(&worked(), &states(6), found(&[0, 1, 2], 3));
-    hold(&worked(), &states(2), none(2));
+    hold(&worked(), &states(6, 0), none(2));
+    hold(&worked(), &states(2, 0), none(2));
+    hold(&worked(), &states(6, 1), found(&[0, 1, 2], 3));
+    hold(&worked(), &states(6, 4), found(&[0, 1, 2], 3));
 }
 
 #[test]
@@ -69,14 +71,45 @@ fn a_rule_of_the_empty_sequence_alone_is_never_found() {
 }
 
 #[test]
-fn a_dead_end_may_close_a_run() {
-    let model = [state(1, true, 2), state(2, false, 0)];
-    hold(&then(&p(0), &p(1)), &model, found(&[0, 1], 2));
+fn a_dead_end_closes_no_run() {
+    let rule = then(&p(0), &p(1));
+    hold(&rule, &[state(1, true, 2), state(2, false, 0)], none(0));
+    hold(
+        &rule,
+        &[state(1, true, 2), state(2, false, 2)],
+        found(&[0, 1], 2),
+    );
+    // The way through state 1 is shorter, and ends there.
+    let model = [
+        state(1, true, 6),
+        state(2, false, 0),
+        state(1, false, 8),
+        state(2, false, 4),
+    ];
+    let rule = then(&star(&p(0)), &p(1));
+    hold(&rule, &model, found(&[0, 2, 3], 3));
+}
+
+#[test]
+fn what_leads_to_dead_ends_alone_is_none_of_a_run() {
+    let chain = |last| -> Vec<Spelled> {
+        (0..64)
+            .map(|number| match number {
+                63 => state(2, false, last),
+                _ => state(1, number == 0, 1 << (number + 1)),
+            })
+            .collect()
+    };
+    let rule = then(&star(&p(0)), &p(1));
+    let whole: Vec<u8> = (0..64).collect();
+    hold(&rule, &chain(0), none(0));
+    hold(&rule, &chain(1 << 63), found(&whole, 64));
+    hold(&rule, &chain(1), found(&whole, 64));
 }
 
 #[test]
 fn the_finds_own_length_counts_in_full() {
-    let model = [state(1, true, 0), state(2, true, 0), state(1, true, 0)];
+    let model = [state(1, true, 1), state(2, true, 2), state(1, true, 4)];
     let rule = or(&p(0), &then(&p(1), &p(2)));
     hold(&rule, &model, found(&[0], 3));
 }
@@ -84,15 +117,15 @@ fn the_finds_own_length_counts_in_full() {
 #[test]
 fn the_first_run_may_go_on_from_any_table_state() {
     // After p0 the table is in two states; the lower one goes on to the higher model state only.
-    let model = [state(1, true, 6), state(2, false, 0), state(4, false, 0)];
+    let model = [state(1, true, 6), state(2, false, 2), state(4, false, 4)];
     let rule = or(&then(&p(0), &p(2)), &then(&p(0), &p(1)));
     hold(&rule, &model, found(&[0, 1], 4));
     // The lowest state that meets a pair is passed over where nothing more can match after it.
     let model = [
         state(1, true, 4),
         state(1, true, 8),
-        state(0, false, 0),
-        state(2, false, 0),
+        state(0, false, 4),
+        state(2, false, 8),
     ];
     hold(&then(&p(0), &p(1)), &model, found(&[1, 3], 3));
 }
@@ -100,7 +133,7 @@ fn the_first_run_may_go_on_from_any_table_state() {
 #[test]
 fn the_lower_state_at_the_first_difference_wins() {
     // 0 3 and 1 2 both match; so does 0 2 in the second model.
-    let last = [state(2, false, 0), state(2, false, 0)];
+    let last = [state(2, false, 4), state(2, false, 8)];
     let rule = then(&p(0), &p(1));
     let model = [&[state(1, true, 8), state(1, true, 4)][..], &last].concat();
     hold(&rule, &model, found(&[0, 3], 4));
@@ -154,13 +187,17 @@ impl Case {
         self.model.letters.len() * (self.table.weight as usize - 1)
     }
 
-    /// The model states that a run may go on to, or begin with if it has none yet.
+    /// The model states that a run may go on to, or begin with if it has none yet, and still be continued for
+    /// ever.
     fn next_states(&self, run: &[u8]) -> Vec<u8> {
         let set = match run.last() {
             None => self.model.initial,
             Some(&state) => self.model.successors[state as usize],
         };
-        (0..64).filter(|state| set >> state & 1 == 1).collect()
+        let goes_on = can_go(&self.model, self.model.letters.len());
+        (0..64)
+            .filter(|state| (set & goes_on) >> state & 1 == 1)
+            .collect()
     }
 
     fn letters(&self, run: &[u8]) -> Vec<u8> {
@@ -238,6 +275,18 @@ impl Case {
         }
         Some(none(pairs.len() as u64))
     }
+}
+
+/// The states from which so many steps can be taken, one after the other. Of as many as there are states, some
+/// two enter the same state, and what lies between them can be gone for ever.
+pub fn can_go(model: &Model, steps: usize) -> u64 {
+    let all = (0..model.letters.len()).map(|state| 1 << state).sum();
+    (0..steps).fold(all, |goes_on, _| {
+        let ways = model.successors.iter().enumerate();
+        ways.filter(|(_, &successors)| successors & goes_on != 0)
+            .map(|(state, _)| 1 << state)
+            .sum()
+    })
 }
 
 /// How many compared cases found a run of two states or more, found one of one state, found none.

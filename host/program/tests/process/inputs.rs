@@ -12,12 +12,12 @@ const NON_BLOCKING: i32 = 0o4000;
 /// A state's bytes.
 pub const RECORD: usize = 11;
 
-/// The example: p0;{p1[*];p2} and its three states.
+/// The example: p0;{p1[*];p2} and its three states, of which the last goes to the first.
 pub fn example() -> Vec<u8> {
     let rule = [
         0x12, 0x10, 0x01, 0x00, 0x12, 0x17, 0x10, 0x01, 0x01, 0x10, 0x01, 0x02,
     ];
-    let states = [(1, 1, 0b010), (2, 0, 0b110), (4, 0, 0)];
+    let states = [(1, 1, 0b010), (2, 0, 0b110), (4, 0, 0b001)];
     let states = states.map(|(letter, flag, successors)| State {
         letter,
         flag,

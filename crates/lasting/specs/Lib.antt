@@ -1,0 +1,4 @@
+pub mod Endless
+pub mod Alive
+pub mod Answer
+pub mod inner
