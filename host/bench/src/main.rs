@@ -7,6 +7,7 @@ mod labels;
 mod stack;
 mod texts;
 mod timing;
+mod walkers;
 
 use cases::draws::seed_given;
 use std::process::ExitCode;
@@ -26,6 +27,7 @@ fn main() -> ExitCode {
     }
     generated::run(seed);
     labels::run();
+    walkers::run(seed);
     let same = hard::run();
     let back = texts::run();
     let shallow = stack::run();
