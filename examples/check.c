@@ -1,5 +1,5 @@
 /* A host in C: searches a small model for a run that matches a rule, shows a refusal, tells which states are half drawn,
- * and follows events by the rule's table. From the repository's root:
+ * follows events by the rule's table, and steps a walker for each of two clinics. From the repository's root:
  *
  *     rt staticlib exports
  *     cc -Iinclude examples/check.c target/staticlib/libexports.a -o target/check && target/check
@@ -9,8 +9,8 @@
 #include <inttypes.h>
 #include <stdio.h>
 
-#if GONGCOLLAR_VERSION < 5
-#error "gc_lasting came with version 5 of the header"
+#if GONGCOLLAR_VERSION < 7
+#error "gc_lasting and gc_step_lent are of this page"
 #endif
 
 enum { ENTRIES = 4096 };
@@ -81,6 +81,33 @@ static void follow(const char *what, uint64_t finals, const uint8_t *events, siz
         printf("%s\n", answer.matches ? "they match" : "they do not match");
 }
 
+/* what the host keeps of a clinic, with the walker in it */
+typedef struct {
+    const char *name;
+    gc_walker walker;
+} clinic;
+
+static void tell(const clinic *c) {
+    printf("%s: %" PRIu32 " events, ", c->name, c->walker.taken);
+    if (c->walker.matched)
+        printf("matched first after %" PRIu32 "\n", c->walker.first);
+    else
+        printf("no match\n");
+}
+
+/* events as they come in, each for its clinic, whose walker is stepped where it stands */
+static void day(uint64_t finals) {
+    clinic clinics[] = {{"north", gc_start(finals)}, {"south", gc_start(finals)}};
+    static const uint8_t events[][2] = {{0, 1}, {1, 4}, {0, 2}, {1, 1}, {0, 4}, {0, 4}};
+    for (size_t i = 0; i < sizeof events / sizeof *events; i++) {
+        gc_moved answer = gc_step_lent(&clinics[events[i][0]].walker, table, ENTRIES, events[i][1]);
+        if (answer.refused)
+            printf("event %zu: refused %" PRIu64 "\n", i, answer.refused);
+    }
+    tell(&clinics[0]);
+    tell(&clinics[1]);
+}
+
 int main(void) {
     show("the whole model", search(sizeof rule, sizeof model));
     show("a model with no states", search(sizeof rule, 0));
@@ -95,5 +122,6 @@ int main(void) {
     follow("the first three of them", built.finals, events, 3);
     follow("five events", built.finals, events, 5);
     follow("no events", built.finals, NULL, 0);
+    day(built.finals);
     return 0;
 }

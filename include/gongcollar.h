@@ -2,16 +2,16 @@
  *
  * A slice is a pointer and a count of elements. NULL with the count 0 is a slice, the one with no elements. Slices
  * that are lent together must not overlap. In every answer `refused` is 0 for an answer, else the refusal's number,
- * with `place`; the other fields are then 0 (but for gc_step, which gives the walker's set back as it came). A
- * refusal leaves every lent slice as it was.
+ * with `place`; the other fields are then 0 (but for gc_step, which gives the walker back as it came). A refusal
+ * leaves every lent slice, and a lent walker, as it was.
  *
  * Refusals: 1 to 7 a rule's, 11 to 16 a model's, 21 a lent slice has fewer than 4,096 entries, 22 a byte that is
- * no letter, 23 more than 16 letters for gc_judge, 30 a text has more than 1,280 characters, 31 no rule has the text,
- * 32 the output is too short for what would be written. A table's label from p to q stands at 64p+q; a set has bit q
- * for state q.
+ * no letter, 23 more than 16 letters for gc_judge, 25 a walker's count is at its largest, 30 a text has more than 1,280
+ * characters, 31 no rule has the text, 32 the output is too short for what would be written. A table's label from p to
+ * q stands at 64p+q; a set has bit q for state q.
  *
  * No call keeps anything between calls, takes memory or asks anything of the system. So calls may run in several
- * threads at once, as long as no slice that one of them writes is lent to another. A call needs 512 KiB of stack at
+ * threads at once, as long as nothing that one of them writes is lent to another. A call needs 512 KiB of stack at
  * most, whatever it is given: a thread that calls should have that much left. */
 #ifndef GONGCOLLAR_H
 #define GONGCOLLAR_H
@@ -21,7 +21,7 @@
 /* The number of this page. It goes up by one whenever a call or a field is added or changed, so that a host can ask
  * at compile time for the page it was written against, as by `#if GONGCOLLAR_VERSION < 2`. (The page before the first
  * number had no gc_follow.) The archive has no number of its own: take both from one commit. */
-#define GONGCOLLAR_VERSION 5
+#define GONGCOLLAR_VERSION 7
 
 #ifdef __cplusplus
 extern "C" {
@@ -32,7 +32,11 @@ extern "C" {
 typedef struct { uint64_t refused, place, weight, uses; } gc_rule;
 typedef struct { uint64_t refused, place, weight, finals, uses; } gc_built;
 typedef struct { uint64_t refused, place, accepts, uses; } gc_judged;
-typedef struct { uint64_t refused, place, set, matched; } gc_stepped;
+/* A walker, which the host keeps in its own record: the states that it may be in and the final states; how many letters
+ * it has taken, how many it had taken at its first match (0 if there is none yet), and whether there is one: 1 or 0, and
+ * any other number counts as 1. It matches now if `set` and `finals` have a state in common. */
+typedef struct { uint64_t set, finals; uint32_t taken, first, matched; } gc_walker;
+typedef struct { uint64_t refused, place, matches; gc_walker walker; } gc_stepped;
 typedef struct { uint64_t refused, place, matches; } gc_moved;
 typedef struct { uint64_t refused, place, states; } gc_model;
 typedef struct { uint64_t refused, place, states, lasting; } gc_lasts;
@@ -42,9 +46,14 @@ typedef struct { uint64_t refused, place, length, weight, uses; } gc_text;
 gc_rule gc_read_rule(const uint8_t *rule, size_t rule_len);
 gc_built gc_build(const uint8_t *rule, size_t rule_len, uint64_t *table, size_t table_len);
 gc_judged gc_judge(const uint8_t *rule, size_t rule_len, const uint8_t *letters, size_t letters_len);
-/* A walker is its set and its finals. A fresh one is at set 1, and matches if bit 0 of the finals is set; from then on
- * `matched` says it after each step. */
-gc_stepped gc_step(uint64_t set, uint64_t finals, const uint64_t *table, size_t table_len, uint8_t letter);
+/* A fresh walker: it is in state 0, has taken no letter, and has matched, at 0, if bit 0 of the finals is set. */
+gc_walker gc_start(uint64_t finals);
+/* One letter more: the walker after it, and in `matches` whether it matches now. 21, then 22 at 0, then 25 where it has
+ * taken 4,294,967,295 letters. */
+gc_stepped gc_step(gc_walker walker, const uint64_t *table, size_t table_len, uint8_t letter);
+/* The same where the walker stands: what gc_step gives back is stored in its place. The walker lies in no slice that is
+ * lent with it. */
+gc_moved gc_step_lent(gc_walker *walker, const uint64_t *table, size_t table_len, uint8_t letter);
 /* a fresh walker led through all the letters: `matches` is 1 if it matches at the end, 22 is at the first index that
  * holds no letter */
 gc_moved gc_follow(const uint64_t *table, size_t table_len, uint64_t finals, const uint8_t *letters, size_t letters_len);

@@ -1,6 +1,7 @@
 -- The numbers of an answer, from the case that the code found. Assumes nothing.
 use Prim.Native.Nat.{ℕ}
 use mathlib.Core.Path.{_≡_, sym, ap, _∙_}
+use mathlib.Core.Bool.{Bool}
 use mathlib.Core.List.{List}
 use Rattle.rules.specs.declared.Known.{Known}
 use Rattle.rules.specs.declared.RuleAnswer.{RuleAnswer}
@@ -11,7 +12,9 @@ use Rattle.tables.specs.declared.TableAnswer.{TableAnswer}
 use Rattle.tables.specs.Answer as tables
 use Rattle.judge.specs.declared.JudgeAnswer.{JudgeAnswer}
 use Rattle.judge.specs.Verdict as judge
+use Rattle.walkers.specs.declared.Walker.{Walker}
 use Rattle.walkers.specs.declared.StepAnswer.{StepAnswer}
+use Rattle.walkers.specs.declared.StepAnswer.the-variants.{Moved}
 use Rattle.walkers.specs.declared.FollowAnswer.{FollowAnswer}
 use Rattle.walkers.specs.Steps as walkers
 use Rattle.walkers.specs.Walks.{ending}
@@ -27,11 +30,12 @@ use Rattle.exports.specs.declared.reading.GcRule.{GcRule}
 use Rattle.exports.specs.declared.reading.GcModel.{GcModel}
 use Rattle.exports.specs.declared.building.GcBuilt.{GcBuilt}
 use Rattle.exports.specs.declared.judging.GcJudged.{GcJudged}
+use Rattle.exports.specs.declared.stepping.GcWalker.{GcWalker}
 use Rattle.exports.specs.declared.stepping.GcStepped.{GcStepped}
 use Rattle.exports.specs.declared.following.GcMoved.{GcMoved}
 use Rattle.exports.specs.declared.lasting_states.GcLasts.{GcLasts}
 use Rattle.exports.specs.declared.searching.GcSearched.{GcSearched}
-use Rattle.exports.specs.Numbers.{ruleNumbers, stateNumbers, builtNumbers, judgedNumbers, stepNumbers, movedNumbers, lastingNumbers, searchedNumbers, textNumbers}
+use Rattle.exports.specs.Numbers.{ruleNumbers, stateNumbers, builtNumbers, judgedNumbers, movedNumbers, lastingNumbers, searchedNumbers, textNumbers, walkerNumbers, beside, steppedNumbers}
 use Rattle.exports.specs.declared.texting.GcText.{GcText}
 use Rattle.exports.specs.Promise.{GcSearches}
 
@@ -55,8 +59,12 @@ builtOf a = builtNumbers (tables.told a)
 abbrev pub judgedOf : JudgeAnswer → GcJudged
 judgedOf a = judgedNumbers (judge.told a)
 
-abbrev pub stepOf : ℕ → StepAnswer → GcStepped
-stepOf set a = stepNumbers set (walkers.outcome a)
+abbrev pub stepOf : GcWalker → Walker → StepAnswer → GcStepped
+stepOf came w a = steppedNumbers came (record { walker = w; says = walkers.outcome a })
+
+-- a step that was made: beside what it says stands the walker's numbers
+pub moved-as : (came : GcWalker) (w : Walker) {a : StepAnswer} {b : Bool} → a ≡ Moved b → {v : GcWalker} → v ≡ walkerNumbers w → beside v (movedNumbers (walkers.flag b)) ≡ stepOf came w a
+moved-as came w {b = b} e i = by-case (stepOf came w) e (ap (λ (v : GcWalker). beside v (movedNumbers (walkers.flag b))) i)
 
 abbrev pub followOf : FollowAnswer → GcMoved
 followOf a = movedNumbers (ending a)

@@ -24,11 +24,12 @@ use Rattle.exports.specs.declared.reading.GcRule.{GcRule}
 use Rattle.exports.specs.declared.reading.GcModel.{GcModel}
 use Rattle.exports.specs.declared.building.GcBuilt.{GcBuilt}
 use Rattle.exports.specs.declared.judging.GcJudged.{GcJudged}
+use Rattle.exports.specs.declared.stepping.GcWalker.{GcWalker}
 use Rattle.exports.specs.declared.stepping.GcStepped.{GcStepped}
 use Rattle.exports.specs.declared.following.GcMoved.{GcMoved}
 use Rattle.exports.specs.declared.lasting_states.GcLasts.{GcLasts}
 use Rattle.exports.specs.declared.searching.GcSearched.{GcSearched}
-use Rattle.exports.specs.Numbers.{ruleNumbers, modelNumbers, builtNumbers, judgedNumbers, walker, steppedNumbers, movedNumbers, lastingNumbers, searchedNumbers, textNumbers}
+use Rattle.exports.specs.Numbers.{ruleNumbers, modelNumbers, builtNumbers, judgedNumbers, steppedNumbers, movedNumbers, lastingNumbers, searchedNumbers, textNumbers, walkerOf, walkerNumbers, beside}
 use Rattle.exports.specs.Promise.{GcBuilds, GcJudges, GcLasting, GcSearches, ReadsText, WritesText}
 use Rattle.texts.specs.Answer as texts
 use Rattle.texts.proofs.Once as texts-once
@@ -40,9 +41,18 @@ one-rule s r r′ e e′ = e ∙ sym e′
 pub one-model : (s : List ℕ) (r r′ : GcModel) → r ≡ modelNumbers (models.answer s) → r′ ≡ modelNumbers (models.answer s) → r ≡ r′
 one-model s r r′ e e′ = e ∙ sym e′
 
-pub one-step : (t : List ℕ) (set finals x : ℕ) (r r′ : GcStepped) → r ≡ steppedNumbers (walkers.stepOf t (walker set finals) x) → r′ ≡ steppedNumbers (walkers.stepOf t (walker set finals) x)
-    → r ≡ r′
-one-step t set finals x r r′ e e′ = e ∙ sym e′
+pub one-start : (finals : ℕ) (r r′ : GcWalker) → r ≡ walkerNumbers (walkers.startOf finals) → r′ ≡ walkerNumbers (walkers.startOf finals) → r ≡ r′
+one-start finals r r′ e e′ = e ∙ sym e′
+
+pub one-step : (t : List ℕ) (w : GcWalker) (x : ℕ) (r r′ : GcStepped)
+    → r ≡ steppedNumbers w (walkers.stepOf t (walkerOf w) x) → r′ ≡ steppedNumbers w (walkers.stepOf t (walkerOf w) x) → r ≡ r′
+one-step t w x r r′ e e′ = e ∙ sym e′
+
+pub one-lent-step : (t : List ℕ) (w v v′ : GcWalker) (x : ℕ) (r r′ : GcMoved)
+    → beside v r ≡ steppedNumbers w (walkers.stepOf t (walkerOf w) x) → beside v′ r′ ≡ steppedNumbers w (walkers.stepOf t (walkerOf w) x) → (r ≡ r′) × (v ≡ v′)
+one-lent-step t w v v′ x r r′ e e′ =
+    let q = e ∙ sym e′ in
+    (ap (λ (s : GcStepped). record { refused = s .refused; place = s .place; matches = s .matches }) q, ap (λ (s : GcStepped). s .walker) q)
 
 pub one-follow : (t : List ℕ) (finals : ℕ) (w : List ℕ) (r r′ : GcMoved) → r ≡ movedNumbers (followOf t finals w) → r′ ≡ movedNumbers (followOf t finals w) → r ≡ r′
 one-follow t finals w r r′ e e′ = e ∙ sym e′

@@ -1,7 +1,8 @@
 -- The numbers that each call gives back for the library's answer: `refused` is 0 for an answer, else the refusal's number, with its place, and the rest is 0.
 -- Assumes nothing: these are definitions.
 use Prim.Native.Nat.{ℕ}
-use mathlib.Core.Bool.{Bool, true, false}
+use mathlib.Core.Bool.{Bool, true, false, not}
+use lib.Dec.{eqb}
 use Rattle.rules.specs.Answer as rules
 use Rattle.models.specs.Answer as models
 use Rattle.tables.specs.Answer as tables
@@ -16,6 +17,7 @@ use Rattle.exports.specs.declared.reading.GcRule.{GcRule}
 use Rattle.exports.specs.declared.reading.GcModel.{GcModel}
 use Rattle.exports.specs.declared.building.GcBuilt.{GcBuilt}
 use Rattle.exports.specs.declared.judging.GcJudged.{GcJudged}
+use Rattle.exports.specs.declared.stepping.GcWalker.{GcWalker}
 use Rattle.exports.specs.declared.stepping.GcStepped.{GcStepped}
 use Rattle.exports.specs.declared.following.GcMoved.{GcMoved}
 use Rattle.exports.specs.declared.lasting_states.GcLasts.{GcLasts}
@@ -47,17 +49,12 @@ abbrev pub judgedNumbers : judge.Verdict → GcJudged
 judgedNumbers (judge.judged b k) = record { refused = 0; place = 0; accepts = digit b; uses = k .uses }
 judgedNumbers (judge.refused n p) = record { refused = n; place = p; accepts = 0; uses = 0 }
 
--- the walker that a caller spells as two numbers
-abbrev pub walker : ℕ → ℕ → Walker
-walker set finals = walkers.walkerAt set finals
+-- the walker that a caller keeps: any mark but 0 says that it has matched
+abbrev pub walkerOf : GcWalker → Walker
+walkerOf w = walkers.walkerAt (w .set) (w .finals) (w .taken) (w .first) (not (eqb (w .matched) 0))
 
--- beside what a step says stands the walker's set
-abbrev pub stepNumbers : ℕ → walkers.Outcome → GcStepped
-stepNumbers set (walkers.flag b) = record { refused = 0; place = 0; set = set; matched = digit b }
-stepNumbers set (walkers.refusal n p) = record { refused = n; place = p; set = set; matched = 0 }
-
-abbrev pub steppedNumbers : walkers.Told → GcStepped
-steppedNumbers t = stepNumbers (t .walker .set) (t .says)
+abbrev pub walkerNumbers : Walker → GcWalker
+walkerNumbers w = record { set = w .set; finals = w .finals; taken = w .taken; first = w .first; matched = digit (w .matched) }
 
 abbrev pub movedNumbers : walkers.Outcome → GcMoved
 movedNumbers (walkers.flag b) = record { refused = 0; place = 0; matches = digit b }
@@ -66,6 +63,18 @@ movedNumbers (walkers.refusal n p) = record { refused = n; place = p; matches = 
 abbrev pub lastingNumbers : lasting.Result → GcLasts
 lastingNumbers (lasting.lasts n w) = record { refused = 0; place = 0; states = n; lasting = w }
 lastingNumbers (lasting.refused n p) = record { refused = n; place = p; states = 0; lasting = 0 }
+
+-- a walker, and beside it what a step says
+abbrev pub beside : GcWalker → GcMoved → GcStepped
+beside w m = record { refused = m .refused; place = m .place; matches = m .matches; walker = w }
+
+-- the walker after the step, or as it came where the step is refused
+abbrev pub leftBy : GcWalker → Walker → walkers.Outcome → GcWalker
+leftBy came w (walkers.flag b) = walkerNumbers w
+leftBy came w (walkers.refusal n p) = came
+
+abbrev pub steppedNumbers : GcWalker → walkers.Told → GcStepped
+steppedNumbers came t = beside (leftBy came (t .walker) (t .says)) (movedNumbers (t .says))
 
 abbrev pub searchedNumbers : search.Result → GcSearched
 searchedNumbers (search.answered k n (found r c)) = record { refused = 0; place = 0; found = 1; length = n; pairs = c; uses = k .uses }

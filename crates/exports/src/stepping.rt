@@ -1,47 +1,119 @@
-// Stepping a walker, which is its set and its finals.
+// Walkers: a fresh one, and one step, by value or where the walker stands in the host's own record.
 ghost use mathlib.Core.Path.{_≡_};
 ghost use Rattle.walkers.specs.Steps as walkers;
-ghost use Rattle.exports.specs.Numbers.{steppedNumbers, walker};
+ghost use Rattle.exports.specs.Numbers.{walkerOf, walkerNumbers, beside, steppedNumbers};
+use crate::following::GcMoved;
 use walkers::Step;
 use walkers::StepAnswer;
 use walkers::Walker;
 
-// What a step gives back: the walker's set, as it came where the step is refused, and 1 where a final is in it.
+// A walker as the host keeps it; of `matched` it matters whether it is 0.
+#[repr(C)]
+pub struct GcWalker {
+    pub set: u64,
+    pub finals: u64,
+    pub taken: u32,
+    pub first: u32,
+    pub matched: u32,
+}
+
+// What a step gives back: the walker, as it came where the step is refused, and 1 where a final is in its set.
 #[repr(C)]
 pub struct GcStepped {
     pub refused: u64,
     pub place: u64,
-    pub set: u64,
-    pub matched: u64,
+    pub matches: u64,
+    pub walker: GcWalker,
 }
 
-// The numbers for each case of the answer.
-fn stepped_numbers(step: Step) -> GcStepped
-    ensures { λ r. ⌜ r ≡ steppedNumbers (walkers.told step) ⌝ }
+// The same, with the walker and what is said apart: the walker that is lent is replaced by the first alone.
+struct Stepping {
+    walker: GcWalker,
+    says: GcMoved,
+}
+
+fn walker_of(w: GcWalker) -> Walker
+    ensures { λ r. ⌜ r ≡ walkerOf w ⌝ }
 {
-    let set = step.walker.set;
-    let answer = step.answer;
-    match answer {
-        StepAnswer::Moved(matched) => GcStepped {
-            refused: 0,
-            place: 0,
-            set,
-            matched: matched as u64,
-        },
-        StepAnswer::Refused(x) => GcStepped {
-            refused: x.number(),
-            place: x.place() as u64,
-            set,
-            matched: 0,
-        },
+    Walker::at(w.set, w.finals, w.taken, w.first, w.matched != 0)
+}
+
+fn walker_numbers(w: Walker) -> GcWalker
+    ensures { λ r. ⌜ r ≡ walkerNumbers w ⌝ }
+{
+    GcWalker {
+        set: w.set,
+        finals: w.finals,
+        taken: w.taken,
+        first: w.first,
+        matched: w.matched as u32,
     }
 }
 
-// Steps a walker over the table by the letter.
-#[no_mangle]
-pub extern "C" fn gc_step(set: u64, finals: u64, table: &[u64], letter: u8) -> GcStepped
-    ensures { λ r. ⌜ r ≡ steppedNumbers (walkers.stepOf (now (table .entry)) (walker set finals) letter) ⌝ }
+// The numbers for each case of the answer; a refusal leaves the walker as it came, whatever its mark was.
+fn stepped_numbers(came: GcWalker, step: Step) -> Stepping
+    ensures { λ r. ⌜ beside (r .walker) (r .says) ≡ steppedNumbers came (walkers.told step) ⌝ }
 {
-    let walker = Walker::at(set, finals);
-    stepped_numbers(walker.step(table, letter))
+    let moved = step.walker;
+    let answer = step.answer;
+    match answer {
+        StepAnswer::Moved(matches) => {
+            let walker = walker_numbers(moved);
+            let says = GcMoved {
+                refused: 0,
+                place: 0,
+                matches: matches as u64,
+            };
+            Stepping { walker, says }
+        }
+        StepAnswer::Refused(x) => {
+            let says = GcMoved {
+                refused: x.number(),
+                place: x.place() as u64,
+                matches: 0,
+            };
+            Stepping { walker: came, says }
+        }
+    }
+}
+
+fn stepped(walker: GcWalker, table: &[u64], letter: u8) -> Stepping
+    ensures { λ r. ⌜ beside (r .walker) (r .says) ≡ steppedNumbers walker (walkers.stepOf (now (table .entry)) (walkerOf walker) letter) ⌝ }
+{
+    let w = walker_of(walker);
+    stepped_numbers(walker, w.step(table, letter))
+}
+
+// A fresh walker.
+#[no_mangle]
+pub extern "C" fn gc_start(finals: u64) -> GcWalker
+    ensures { λ r. ⌜ r ≡ walkerNumbers (walkers.startOf finals) ⌝ }
+{
+    walker_numbers(Walker::start(finals))
+}
+
+// Steps a walker over the table by the letter, and gives it back.
+#[no_mangle]
+pub extern "C" fn gc_step(walker: GcWalker, table: &[u64], letter: u8) -> GcStepped
+    ensures { λ r. ⌜ r ≡ steppedNumbers walker (walkers.stepOf (now (table .entry)) (walkerOf walker) letter) ⌝ }
+{
+    let s = stepped(walker, table, letter);
+    let says = s.says;
+    let walker = s.walker;
+    GcStepped {
+        refused: says.refused,
+        place: says.place,
+        matches: says.matches,
+        walker,
+    }
+}
+
+// Steps a walker where it stands.
+#[no_mangle]
+pub extern "C" fn gc_step_lent(walker: &mut GcWalker, table: &[u64], letter: u8) -> GcMoved
+    ensures { λ r. ⌜ beside (now (walker .exit)) r ≡ steppedNumbers (now (walker .entry)) (walkers.stepOf (now (table .entry)) (walkerOf (now (walker .entry))) letter) ⌝ }
+{
+    let s = stepped(*walker, table, letter);
+    *walker = s.walker;
+    s.says
 }

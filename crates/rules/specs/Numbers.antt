@@ -12,3 +12,7 @@ badLetter = 22
 -- there are more letters than the plain judge takes
 abbrev pub tooManyLetters : ℕ
 tooManyLetters = 23
+
+-- a walker's count of letters is at its largest
+abbrev pub fullCount : ℕ
+fullCount = 25

@@ -8,3 +8,6 @@ pub const BAD_LETTER: u64 = 22;
 
 // There are more letters than the plain judge takes.
 pub const TOO_MANY_LETTERS: u64 = 23;
+
+// A walker's count of letters is at its largest.
+pub const FULL_COUNT: u64 = 25;

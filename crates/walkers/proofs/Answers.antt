@@ -3,37 +3,59 @@ use Prim.Native.Nat.{ℕ, _+_, _^_, _<_, _≤_}
 use native.Mathlib.Numerals.{add-one}
 use native.Mathlib.Omega.{arith}
 use mathlib.Core.Path.{_≡_, refl, sym, ap, _∙_}
-use mathlib.Core.Bool.{not}
+use mathlib.Core.Logic.{_≢_}
+use mathlib.Core.Bool.{true, false, not}
 use mathlib.Core.List.{List}
 use lib.Bits.{bitAnd}
 use lib.Dec.{eqb}
 use lib.ListN.{length, getD, drop}
 use lib.Seq.{drop-cons, drop-length}
-use borrow.Author.Tests.{lt-ltb, le-ltb}
+use borrow.Author.Tests.{lt-ltb, le-ltb, ne-eqb}
 use Rattle.rules.specs.Definition2.{letterCount}
-use Rattle.rules.specs.Numbers.{shortSlice, badLetter}
+use Rattle.rules.specs.Numbers.{shortSlice, badLetter, fullCount}
 use Rattle.walkers.specs.declared.Walker.{Walker}
-use Rattle.walkers.specs.declared.Refusal.the-variants.{ShortTable, BadLetter}
-use Rattle.walkers.specs.declared.StepAnswer.the-variants.{Moved, Refused}
+use Rattle.walkers.specs.declared.StepAnswer.the-variants.{Moved}
+use Rattle.walkers.specs.declared.Step.{Step}
 use Rattle.tables.specs.Table.{tableEntries}
 use Rattle.steps.specs.Moves.{advanced, meets}
 use Rattle.steps.proofs.Gathering.{advanced-lt, meets-test}
-use Rattle.walkers.specs.Steps.{walkerAt, flag, refusal, told, stepOf}
+use Rattle.walkers.specs.Steps.{largestCount, walkerAt, flag, refusal, told, given, ledTo, refusedAs, stepOf}
 use Rattle.walkers.specs.Walks.{followFrom, followOf}
 
+-- ---- the walker after one more letter
+
+module _ (w : Walker) (set : ℕ) (small : set < 2 ^ 64) (v : Walker) where
+  -- a match that there was stays
+  pub led-matched : w .matched ≡ true → v ≡ walkerAt set (w .finals) (w .taken + 1) (w .first) true → v ≡ ledTo w set
+  led-matched m e = rw (m) e
+
+  pub led-unmatched : w .matched ≡ false → bitAnd set (w .finals) ≡ 0 → v ≡ walkerAt set (w .finals) (w .taken + 1) (w .first) false → v ≡ ledTo w set
+  led-unmatched m z e = rw (m, ← meets-test set (w .finals) small, z) e
+
+  pub led-first : w .matched ≡ false → bitAnd set (w .finals) ≢ 0 → v ≡ walkerAt set (w .finals) (w .taken + 1) (w .taken + 1) true → v ≡ ledTo w set
+  led-first m z e = rw (m, ← meets-test set (w .finals) small, ne-eqb (bitAnd set (w .finals)) 0 z) e
+
+-- ---- one step
+
 module _ (t : List ℕ) (w : Walker) (x : ℕ) where
-  pub step-short : length t < tableEntries → told (record { walker = w; answer = Refused ShortTable }) ≡ stepOf t w x
+  pub step-short : (s : Step) → told s ≡ refusedAs w shortSlice 0 → length t < tableEntries → told s ≡ stepOf t w x
   unfolding stepOf
-  step-short h = rw (lt-ltb (length t) tableEntries h)
+  step-short s e h = rw (lt-ltb (length t) tableEntries h) e
 
-  pub step-bad : tableEntries ≤ length t → letterCount ≤ x → told (record { walker = w; answer = Refused (BadLetter 0) }) ≡ stepOf t w x
+  pub step-bad : (s : Step) → told s ≡ refusedAs w badLetter 0 → tableEntries ≤ length t → letterCount ≤ x → told s ≡ stepOf t w x
   unfolding stepOf
-  step-bad h l = rw (le-ltb (length t) tableEntries h, le-ltb x letterCount l)
+  step-bad s e h l = rw (le-ltb (length t) tableEntries h, le-ltb x letterCount l) e
 
-  pub step-moved : (set : ℕ) (v : Walker) → tableEntries ≤ length t → x < letterCount → set ≡ advanced t (w .set) x → v ≡ walkerAt set (w .finals)
-      → told (record { walker = v; answer = Moved (not (eqb (bitAnd set (w .finals)) 0)) }) ≡ stepOf t w x
+  pub step-full : (s : Step) → told s ≡ refusedAs w fullCount 0 → tableEntries ≤ length t → x < letterCount → largestCount ≤ w .taken → told s ≡ stepOf t w x
   unfolding stepOf
-  step-moved set v h l e i = rw (i, e, le-ltb (length t) tableEntries h, lt-ltb x letterCount l, meets-test (advanced t (w .set) x) (w .finals) (advanced-lt t (w .set) x))
+  step-full s e h l k = rw (le-ltb (length t) tableEntries h, lt-ltb x letterCount l, le-ltb (w .taken) largestCount k) e
+
+  pub step-moved : (set : ℕ) (v : Walker) → tableEntries ≤ length t → x < letterCount → w .taken < largestCount → set ≡ advanced t (w .set) x → v ≡ ledTo w set
+      → told (given v (Moved (not (eqb (bitAnd set (w .finals)) 0)))) ≡ stepOf t w x
+  unfolding stepOf
+  step-moved set v h l k e i = rw (i, e, le-ltb (length t) tableEntries h, lt-ltb x letterCount l, lt-ltb (w .taken) largestCount k, meets-test (advanced t (w .set) x) (w .finals) (advanced-lt t (w .set) x))
+
+-- ---- a whole sequence
 
 -- what is left to follow, from place i on and at this set, tells what the whole does
 pub record Following (t : List ℕ) (f : ℕ) (l : List ℕ) (set i : ℕ) : Type 0 where

@@ -1,3 +1,4 @@
 pub mod Walking
 pub mod Answers
 pub mod Once
+pub mod Remembering

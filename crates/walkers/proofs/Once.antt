@@ -5,28 +5,29 @@ use Prim.Native.Nat.{ℕ}
 use mathlib.Core.Path.{_≡_, refl, sym, ap, _∙_}
 use mathlib.Core.List.{List}
 use lib.Dec.{eqb}
-use Rattle.rules.specs.Numbers.{shortSlice}
+use Rattle.rules.specs.Numbers.{shortSlice, badLetter}
 use Rattle.rules.proofs.Once.{told-once}
 use Rattle.walkers.specs.declared.Walker.{Walker}
 use Rattle.walkers.specs.declared.Refusal.{Refusal}
-use Rattle.walkers.specs.declared.Refusal.the-variants.{ShortTable, BadLetter}
+use Rattle.walkers.specs.declared.Refusal.the-variants.{ShortTable, BadLetter, FullCount}
 use Rattle.walkers.specs.declared.StepAnswer.{StepAnswer}
 use Rattle.walkers.specs.declared.StepAnswer.the-variants as step-variants
 use Rattle.walkers.specs.declared.FollowAnswer.{FollowAnswer}
 use Rattle.walkers.specs.declared.FollowAnswer.the-variants as follow-variants
 use Rattle.walkers.specs.declared.Step.{Step}
 use Rattle.walkers.specs.Refusals.{number, place}
-use Rattle.walkers.specs.Steps.{Outcome, flag, refusal, outcome, Told, told, stepOf}
+use Rattle.walkers.specs.Steps.{Outcome, flag, refusal, outcome, Told, told, given, stepOf}
 use Rattle.walkers.specs.Walks.{ending, followOf, Follows}
 use Rattle.walkers.proofs.Walking.{follow-sat}
 
 -- the refusal of a number and a place
 abbrev named : ℕ → ℕ → Refusal
-named n i = cond (eqb n shortSlice) ShortTable (BadLetter i)
+named n i = cond (eqb n shortSlice) ShortTable (cond (eqb n badLetter) (BadLetter i) FullCount)
 
 named-told : (x : Refusal) → named (number x) (place x) ≡ x
 named-told ShortTable = refl
 named-told (BadLetter i) = refl
+named-told FullCount = refl
 
 abbrev answerOf : Outcome → StepAnswer
 answerOf (flag b) = step-variants.Moved b
@@ -44,6 +45,10 @@ step-back s = ap (λ (a : StepAnswer). record { walker = s .walker; answer = a }
 
 pub one-step : (t : List ℕ) (w : Walker) (x : ℕ) (r s : Step) → told r ≡ stepOf t w x → told s ≡ stepOf t w x → r ≡ s
 one-step t w x r s d e = told-once told stepBack step-back r s (d ∙ sym e)
+
+-- of a walker that is lent: one answer, and one walker left there
+pub one-lent : (t : List ℕ) (w : Walker) (x : ℕ) (v u : Walker) (a b : StepAnswer) → told (given v a) ≡ stepOf t w x → told (given u b) ≡ stepOf t w x → (a ≡ b) × (v ≡ u)
+one-lent t w x v u a b d e = let s = one-step t w x (given v a) (given u b) d e in (λ i. s i .answer, λ i. s i .walker)
 
 abbrev followBack : Outcome → FollowAnswer
 followBack (flag b) = follow-variants.Ended b

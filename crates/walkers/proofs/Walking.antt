@@ -17,24 +17,24 @@ use Rattle.tables.specs.Promise.{Letters, Serves}
 use Rattle.steps.specs.Moves.{advanced, meets, walked}
 use Rattle.steps.proofs.Walking.{start-meets, walk-accepts}
 use Rattle.walkers.specs.declared.Walker.{Walker}
-use Rattle.walkers.specs.Steps.{startOf, Outcome, flag, movedBy, stepOf}
+use Rattle.walkers.specs.Steps.{largestCount, startOf, Outcome, flag, ledTo, movedBy, stepOf}
 use Rattle.walkers.specs.Walks.{followFrom, followOf, lastSays}
 
 -- over letters and a long table nothing is refused
 module _ (t : List ℕ) (long : tableEntries ≤ length t) where
-  step-moves : (w : Walker) (x : ℕ) → x < letterCount → stepOf t w x ≡ movedBy t w x
+  -- nor while the count has room
+  step-moves : (w : Walker) (x : ℕ) → x < letterCount → w .taken < largestCount → stepOf t w x ≡ movedBy t w x
   unfolding stepOf
-  step-moves w x l = rw (le-ltb (length t) tableEntries long, lt-ltb x letterCount l)
+  step-moves w x l k = rw (le-ltb (length t) tableEntries long, lt-ltb x letterCount l, lt-ltb (w .taken) largestCount k)
 
-  last-from : (finals set : ℕ) (w : List ℕ) → Letters w
-      → lastSays t (record { set = set; finals = finals }) (flag (meets set finals)) w ≡ flag (meets (walked t set w) finals)
+  last-from : (v : Walker) (w : List ℕ) → Letters w → v .taken + length w ≤ largestCount → lastSays t v (flag (meets (v .set) (v .finals))) w ≡ flag (meets (walked t (v .set) w) (v .finals))
   unfolding lastSays
-  last-from finals set [] h = refl
-  last-from finals set (x ∷ w) h = rw (step-moves (record { set = set; finals = finals }) x (h .0)) (last-from finals (advanced t set x) w (h .1))
+  last-from v [] h s = refl
+  last-from v (x ∷ w) h s = rw (step-moves v x (h .0) (omega arith)) (last-from (ledTo v (advanced t (v .set) x)) w (h .1) (omega arith))
 
   -- the last flag of a walker that starts at {0}; before any step, whether 0 is final
-  pub walker-walks : (finals : ℕ) (w : List ℕ) → Letters w → lastSays t (startOf finals) (flag (bit finals 0)) w ≡ flag (meets (walked t 1 w) finals)
-  walker-walks finals w h = rw (start-meets finals) at (last-from finals 1 w h)
+  pub walker-walks : (finals : ℕ) (w : List ℕ) → Letters w → length w ≤ largestCount → lastSays t (startOf finals) (flag (bit finals 0)) w ≡ flag (meets (walked t 1 w) finals)
+  walker-walks finals w h s = rw (start-meets finals) at (last-from (startOf finals) w h (omega arith))
 
   follow-from : (finals set i : ℕ) (w : List ℕ) → Letters w → followFrom t finals set i w ≡ flag (meets (walked t set w) finals)
   unfolding followFrom
@@ -58,11 +58,11 @@ module _ (r : Rule) (t : List ℕ) (f : ℕ) (serves : Serves (tableOf t tableSt
   walk-sat = Iff·trans (walk-accepts t f w) (serves .sound w letters, serves .complete w letters)
 
   -- the last flag of a fresh walker is true exactly if the rule accepts the letters
-  pub walker-sat : (lastSays t (startOf f) (flag (bit f 0)) w ≡ flag true) ↔ Sat r w
-  walker-sat = Iff·trans (flag-is (lastSays t (startOf f) (flag (bit f 0)) w) (meets (walked t 1 w) f) (walker-walks t long f w letters)) walk-sat
+  pub walker-sat : length w ≤ largestCount → (lastSays t (startOf f) (flag (bit f 0)) w ≡ flag true) ↔ Sat r w
+  walker-sat s = Iff·trans (flag-is (lastSays t (startOf f) (flag (bit f 0)) w) (meets (walked t 1 w) f) (walker-walks t long f w letters s)) walk-sat
 
-  pub walker-unsat : (lastSays t (startOf f) (flag (bit f 0)) w ≡ flag false) ↔ (Sat r w → ⊥)
-  walker-unsat = flag-not (lastSays t (startOf f) (flag (bit f 0)) w) (meets (walked t 1 w) f) (walker-walks t long f w letters) walker-sat
+  pub walker-unsat : length w ≤ largestCount → (lastSays t (startOf f) (flag (bit f 0)) w ≡ flag false) ↔ (Sat r w → ⊥)
+  walker-unsat s = flag-not (lastSays t (startOf f) (flag (bit f 0)) w) (meets (walked t 1 w) f) (walker-walks t long f w letters s) (walker-sat s)
 
   -- `follow` says yes exactly if the rule accepts the letters
   pub follow-sat : (followOf t f w ≡ flag true) ↔ Sat r w

@@ -1,3 +1,4 @@
 pub mod Refusals
 pub mod Steps
 pub mod Walks
+pub mod Remembers

@@ -1,10 +1,12 @@
 // Follows letters through a lent table: a walker that is stepped, and a whole sequence at once.
 ghost use mathlib.Core.Path.{_≡_};
+ghost use Prim.Native.Nat.{_<_};
 ghost use Rattle.walkers.specs.Refusals.{number, place};
-ghost use Rattle.walkers.specs.Steps.{walkerAt, startOf, told, stepOf};
+ghost use Rattle.walkers.specs.Steps.{largestCount, walkerAt, startOf, refusedAs, ledTo, given, told, stepOf};
 ghost use Rattle.walkers.specs.Walks.{followOf, ending, Follows};
 use rules::formulas::LETTER_COUNT;
 use rules::numbers::BAD_LETTER;
+use rules::numbers::FULL_COUNT;
 use rules::numbers::SHORT_SLICE;
 use steps::advance;
 use tables::TABLE_ENTRIES;
@@ -12,10 +14,17 @@ use tables::TABLE_ENTRIES;
 // A letter is below this.
 const LETTERS: u8 = LETTER_COUNT as u8;
 
-// The states that it may be in, and the final states.
+// The count of letters goes up to this.
+const LARGEST_COUNT: u32 = 4294967295;
+
+// The states that it may be in, and the final states; how many letters it has taken, how many it had taken at its first
+// match, 0 if there is none yet, and whether there is one.
 pub struct Walker {
     pub set: u64,
     pub finals: u64,
+    pub taken: u32,
+    pub first: u32,
+    pub matched: bool,
 }
 
 // Why there is no step.
@@ -24,6 +33,8 @@ pub enum Refusal {
     ShortTable,
     // the letter at this place is none
     BadLetter(usize),
+    // the walker can count no further letter
+    FullCount,
 }
 
 impl Refusal {
@@ -34,6 +45,7 @@ impl Refusal {
         match self {
             Refusal::ShortTable => SHORT_SLICE,
             Refusal::BadLetter(_) => BAD_LETTER,
+            Refusal::FullCount => FULL_COUNT,
         }
     }
 
@@ -44,6 +56,7 @@ impl Refusal {
         match self {
             Refusal::ShortTable => 0,
             Refusal::BadLetter(i) => i,
+            Refusal::FullCount => 0,
         }
     }
 }
@@ -67,18 +80,49 @@ pub enum FollowAnswer {
 }
 
 impl Walker {
-    // A walker at these states: every walker is made here.
-    pub fn at(set: u64, finals: u64) -> Walker
-        ensures { λ r. ⌜ r ≡ walkerAt set finals ⌝ }
+    // A walker with these fields: every walker is made here.
+    pub fn at(set: u64, finals: u64, taken: u32, first: u32, matched: bool) -> Walker
+        ensures { λ r. ⌜ r ≡ walkerAt set finals taken first matched ⌝ }
     {
-        Walker { set, finals }
+        Walker {
+            set,
+            finals,
+            taken,
+            first,
+            matched,
+        }
     }
 
-    // A walker at state 0.
+    // A walker at state 0, which has taken no letter, and has matched if 0 is final.
     pub fn start(finals: u64) -> Walker
         ensures { λ r. ⌜ r ≡ startOf finals ⌝ }
     {
-        Walker::at(1, finals)
+        Walker::at(1, finals, 0, 0, bits::has(finals, 0))
+    }
+
+    // No step: the walker as it came.
+    fn refused(self, x: Refusal) -> Step
+        ensures { λ r. ⌜ told r ≡ refusedAs self (number x) (place x) ⌝ }
+    {
+        Step {
+            walker: self,
+            answer: StepAnswer::Refused(x),
+        }
+    }
+
+    // The walker after one more letter, which led it to the set: a first match stays the first.
+    fn led_to(self, set: u64) -> Walker
+        requires { ⌜ self .taken < largestCount ⌝ }
+        ensures { λ r. ⌜ r ≡ ledTo self set ⌝ }
+    {
+        let taken = self.taken + 1;
+        if self.matched {
+            return Walker::at(set, self.finals, taken, self.first, true);
+        }
+        if set & self.finals == 0 {
+            return Walker::at(set, self.finals, taken, self.first, false);
+        }
+        Walker::at(set, self.finals, taken, taken, true)
     }
 
     // The walker moved by the letter; a refusal gives it back as it came.
@@ -86,23 +130,29 @@ impl Walker {
         ensures { λ r. ⌜ told r ≡ stepOf (now (table .entry)) self letter ⌝ }
     {
         if table.len() < TABLE_ENTRIES {
-            return Step {
-                walker: self,
-                answer: StepAnswer::Refused(Refusal::ShortTable),
-            };
+            return self.refused(Refusal::ShortTable);
         }
         if letter >= LETTERS {
-            return Step {
-                walker: self,
-                answer: StepAnswer::Refused(Refusal::BadLetter(0)),
-            };
+            return self.refused(Refusal::BadLetter(0));
+        }
+        if self.taken >= LARGEST_COUNT {
+            return self.refused(Refusal::FullCount);
         }
         let set = advance(table, self.set, letter);
         Step {
-            walker: Walker::at(set, self.finals),
+            walker: self.led_to(set),
             answer: StepAnswer::Moved(set & self.finals != 0),
         }
     }
+}
+
+// The walker stepped where it stands: it is then what `step` gives back.
+pub fn step_lent(walker: &mut Walker, table: &[u64], letter: u8) -> StepAnswer
+    ensures { λ r. ⌜ told (given (now (walker .exit)) r) ≡ stepOf (now (table .entry)) (now (walker .entry)) letter ⌝ }
+{
+    let s = (*walker).step(table, letter);
+    *walker = s.walker;
+    s.answer
 }
 
 // Whether the letters lead from state 0 to a final state.

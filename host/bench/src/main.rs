@@ -8,6 +8,7 @@ mod labels;
 mod stack;
 mod texts;
 mod timing;
+mod walkers;
 
 use cases::draws::seed_given;
 use std::process::ExitCode;
@@ -32,6 +33,7 @@ fn main() -> ExitCode {
     }
     generated::run(seed);
     labels::run();
+    walkers::run(seed);
     let same = hard::run();
     let back = texts::run();
     let shallow = stack::run();

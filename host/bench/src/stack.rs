@@ -102,8 +102,15 @@ fn measure(rules: &[Vec<u8>]) -> io::Result<Vec<Deepest>> {
     each("judge", &mut |rule| {
         raw::judge(rule, &LETTERS);
     })?;
+    let walker = raw::Walker {
+        set: u64::MAX,
+        ..raw::start(1)
+    };
     each("step", &mut |rule| {
-        raw::step(u64::MAX, 1, &table, rule.len() as u8);
+        raw::step(walker, &table, rule.len() as u8);
+    })?;
+    each("step_lent", &mut |rule| {
+        raw::step_lent(&mut walker.clone(), &table, rule.len() as u8);
     })?;
     each("follow", &mut |rule| {
         raw::follow(&table, 1, rule);

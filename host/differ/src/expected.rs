@@ -1,7 +1,7 @@
 //! The calls of [`gongcollar::raw`] as the plain library has them, the later content of lent slices included.
 
 use crate::lent::Slices;
-use gongcollar::raw::{Built, Judged, Lasts, Model, Moved, Rule, Searched, Stepped};
+use gongcollar::raw::{Built, Judged, Lasts, Model, Moved, Rule, Searched, Stepped, Walker};
 use gongcollar::{ENTRIES, LINE_BYTES};
 use plain::Refusal;
 
@@ -62,18 +62,44 @@ pub fn judge(rule: &[u8], letters: &[u8]) -> Judged {
     }
 }
 
-/// What `step` should answer: after a refusal the set is as it came.
-pub fn step(set: u64, finals: u64, table: &[u64], letter: u8) -> Stepped {
-    match plain::step(set, finals, table, letter) {
-        Ok((set, matched)) => Stepped {
-            set,
-            matched: matched.into(),
+/// A walker as the plain library has it: any mark but 0 says that it has matched.
+fn plain_walker(walker: Walker) -> plain::Walker {
+    plain::Walker {
+        set: walker.set,
+        finals: walker.finals,
+        taken: walker.taken,
+        first: walker.first,
+        matched: walker.matched != 0,
+    }
+}
+
+fn numbers(walker: plain::Walker) -> Walker {
+    Walker {
+        set: walker.set,
+        finals: walker.finals,
+        taken: walker.taken,
+        first: walker.first,
+        matched: walker.matched.into(),
+    }
+}
+
+/// What `start` should answer.
+pub fn start(finals: u64) -> Walker {
+    numbers(plain::start(finals))
+}
+
+/// What `step` should answer: after a refusal the walker is as it came.
+pub fn step(walker: Walker, table: &[u64], letter: u8) -> Stepped {
+    match plain::step(plain_walker(walker), table, letter) {
+        Ok((after, matches)) => Stepped {
+            matches: matches.into(),
+            walker: numbers(after),
             ..Stepped::default()
         },
         Err(Refusal { number, place }) => Stepped {
             refused: number,
             place,
-            set,
+            walker,
             ..Stepped::default()
         },
     }

@@ -2,6 +2,7 @@
 
 #![deny(missing_docs)]
 
+pub mod clinics;
 pub mod expected;
 pub mod lent;
 pub mod report;

@@ -7,13 +7,13 @@ use cases::draws::seed_given;
 use cases::{heavy, hostile, letters, line_input, models, rules, Draws};
 use differ::lent;
 use differ::trials::Trials;
-use gongcollar::Walker;
+use gongcollar::raw;
 use std::process::ExitCode;
 
 const SEED: u64 = 20_260_101;
 /// Every refusal of the interface; each must come up.
-const REFUSALS: [u64; 19] = [
-    1, 2, 3, 4, 5, 6, 7, 11, 12, 13, 14, 15, 16, 21, 22, 23, 30, 31, 32,
+const REFUSALS: [u64; 20] = [
+    1, 2, 3, 4, 5, 6, 7, 11, 12, 13, 14, 15, 16, 21, 22, 23, 25, 30, 31, 32,
 ];
 const FEWEST_CASES: usize = 20_000;
 
@@ -47,6 +47,7 @@ fn main() -> ExitCode {
     steps(&mut trials);
     walks(&mut trials);
     differ::texts::run(&mut trials);
+    differ::clinics::run(&mut trials);
     verdict(seed, &trials)
 }
 
@@ -180,22 +181,33 @@ fn good_and_bad_models(trials: &mut Trials) {
 /// Walkers over labels that no rule has, and over those of a rule.
 fn steps(trials: &mut Trials) {
     for _ in 0..WALKERS {
+        let finals = trials.draws.set();
+        trials.start("any finals", finals);
         let labels = lent::labels(&mut trials.draws);
-        let walker = Walker::at(trials.draws.set(), trials.draws.set());
+        let walker = any_walker(&mut trials.draws);
         step_on(trials, "random labels", walker, &labels);
         let rule = rules::accepted(&mut trials.draws);
         if let Ok(built) = plain::build(&rule, gongcollar::ENTRIES) {
-            step_on(
-                trials,
-                "a rule's labels",
-                Walker::start(built.finals),
-                &built.labels,
-            );
+            trials.start("a rule's finals", built.finals);
+            let walker = raw::start(built.finals);
+            step_on(trials, "a rule's labels", walker, &built.labels);
         }
     }
 }
 
-fn step_on(trials: &mut Trials, sort: &'static str, walker: Walker, labels: &[u64]) {
+/// A walker that no start need have made: any sets, any count, near the largest now and then, and any mark.
+fn any_walker(draws: &mut Draws) -> raw::Walker {
+    let counts = [0, 1, 1000, u32::MAX - 5, u32::MAX - 1, u32::MAX];
+    raw::Walker {
+        set: draws.set(),
+        finals: draws.set(),
+        taken: draws.one_of(&counts),
+        first: draws.one_of(&[0, 1, 7, u32::MAX]),
+        matched: draws.one_of(&[0, 0, 1, 2, 1 << 31]),
+    }
+}
+
+fn step_on(trials: &mut Trials, sort: &'static str, walker: raw::Walker, labels: &[u64]) {
     let mut walker = walker;
     for _ in 0..STEPS {
         let letter = match trials.draws.once_in(10) {
@@ -204,9 +216,9 @@ fn step_on(trials: &mut Trials, sort: &'static str, walker: Walker, labels: &[u6
         };
         trials.step(sort, walker, labels, letter);
         // A refusal leaves the walker; an empty set would stay empty.
-        let _ = walker.advance(labels, letter);
-        if walker.set() == 0 {
-            walker = Walker::at(trials.draws.set(), walker.finals());
+        raw::step_lent(&mut walker, labels, letter);
+        if walker.set == 0 {
+            walker.set = trials.draws.set();
         }
     }
 }

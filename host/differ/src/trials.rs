@@ -81,21 +81,46 @@ impl Trials {
         self.report.note("judge", sort, outcome, fault);
     }
 
-    /// Steps a walker over whatever labels are there.
-    pub fn step(&mut self, sort: &'static str, walker: Walker, labels: &[u64], letter: u8) {
-        let want = expected::step(walker.set(), walker.finals(), labels, letter);
-        let got = raw::step(walker.set(), walker.finals(), labels, letter);
-        let mut moved = walker;
-        let safe = moved.advance(labels, letter);
+    /// Starts a walker.
+    pub fn start(&mut self, sort: &'static str, finals: u64) {
+        let want = expected::start(finals);
+        let fault = unlike(raw::start(finals), want)
+            .or_else(|| unlike(Walker::start(finals), want.into()))
+            .map(|text| format!("finals {finals:x}: {text}"));
+        let outcome = Outcome::Answer(yes_or_no(want.matched == 1));
+        self.report.note("start", sort, outcome, fault);
+    }
+
+    /// Steps a walker over whatever labels are there, by value and where it stands.
+    pub fn step(&mut self, sort: &'static str, walker: raw::Walker, labels: &[u64], letter: u8) {
+        let want = expected::step(walker, labels, letter);
+        let got = raw::step(walker, labels, letter);
+        let mut lent = walker;
+        let said = raw::step_lent(&mut lent, labels, letter);
+        let mut safe = Walker::from(walker);
+        let answer = safe.step(labels, letter);
+        let by_value = Walker::from(walker).stepped(labels, letter);
+        let by_value = by_value.map(|stepped| (stepped.walker, stepped.matches));
+        let after = Walker::from(want.walker);
+        let matches = want.matches == 1;
+        let (refused, place) = (want.refused, want.place);
         let fault = unlike(got, want)
-            .or_else(|| unlike_safe(safe, want.refused, want.place, want.matched == 1))
-            .or_else(|| unlike(moved, Walker::at(want.set, walker.finals())));
+            .or_else(|| unlike(lent, want.walker))
+            .or_else(|| {
+                unlike(
+                    [said.refused, said.place, said.matches],
+                    [refused, place, want.matches],
+                )
+            })
+            .or_else(|| unlike_safe(answer, refused, place, matches))
+            .or_else(|| unlike(safe, after))
+            .or_else(|| unlike_safe(by_value, refused, place, (after, matches)));
         let fault = fault.map(|text| {
             let entries = labels.len();
-            let way = labels_into(walker.set(), labels, got.set ^ want.set);
+            let way = labels_into(walker.set, labels, got.walker.set ^ want.walker.set);
             format!("{walker:x?}, {entries} labels{way}, letter {letter:02X}: {text}")
         });
-        let outcome = Outcome::of(want.refused, yes_or_no(want.matched == 1));
+        let outcome = Outcome::of(want.refused, yes_or_no(matches));
         self.report.note("step", sort, outcome, fault);
     }
 
@@ -193,15 +218,17 @@ impl Trials {
     }
 
     /// Walks a sequence through a good rule's table, step by step and at once, and judges it where it is short enough;
-    /// all are held to the published definition.
+    /// all are held to the published definition, and so is what the walker remembers.
     pub fn sequence(&mut self, sort: &'static str, rule: &[u8], letters: &[u8]) {
         let Ok(read) = plain::read_rule(rule) else {
             return;
         };
         let want = plain::accepts(&read.rule, letters);
+        let first = (0..=letters.len()).find(|&n| plain::accepts(&read.rule, &letters[..n]));
         let walked = walked(rule, letters);
         let followed = Table::build(rule).and_then(|table| table.follow(letters));
-        let fault = unlike(walked, Ok(want))
+        let remembered = (want, letters.len(), first);
+        let fault = unlike(walked, Ok(remembered))
             .or_else(|| unlike(followed, Ok(want)))
             .or_else(|| {
                 let judged = gongcollar::judge(rule, letters);
@@ -229,15 +256,17 @@ impl Trials {
     }
 }
 
-/// Where a walker through the rule's table ends.
-fn walked(rule: &[u8], letters: &[u8]) -> Result<bool, Refusal> {
+/// Where a walker through the rule's table ends: whether it matches, how many letters it took, and at how many it first
+/// matched.
+fn walked(rule: &[u8], letters: &[u8]) -> Result<(bool, usize, Option<usize>), Refusal> {
     let table = Table::build(rule)?;
     let mut walker = table.walker();
     let mut matches = walker.matches();
-    for &letter in letters {
-        matches = walker.advance(&table, letter)?;
+    for step in walker.steps(&table, letters) {
+        matches = step?;
     }
-    Ok(matches)
+    let first = walker.first_match().map(|first| first as usize);
+    Ok((matches, walker.taken() as usize, first))
 }
 
 /// The labels from each member of the set into the lowest state that is in doubt, if any.

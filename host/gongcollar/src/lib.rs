@@ -3,9 +3,9 @@
 //! A rule is a sequence expression of PSL, and a model a small set of states with letters and successors; both are
 //! given as bytes in the house form. [`Workspace::search`] tells whether some run of the model spells a sequence that
 //! the rule accepts, and shows the first shortest one; only runs that can be continued for ever count, and [`lasting`]
-//! tells which states these can enter. A [`Table`] and a [`Walker`] follow events as they come,
-//! [`Table::follow`] decides a whole sequence, and [`judge`] a short one with no table. Bad input is a [`Refusal`] with
-//! its number and its place.
+//! tells which states these can enter. A [`Table`] and a [`Walker`] follow events as they come, with a walker for each
+//! place that they come from; [`Table::follow`] decides a whole sequence, and [`judge`] a short one with no table. Bad
+//! input is a [`Refusal`] with its number and its place.
 //!
 //! A [`Rule`] is read from text, as `{p0;{{p1}[*];p2}}`, and written as it.
 //!
@@ -25,14 +25,16 @@ mod refusal;
 mod rules;
 mod tables;
 mod texts;
+mod walkers;
 
 pub use lines::{rulecheck, rulecheck_into};
 pub use models::{lasting, read_model, search_into, Lasting, Lent, ModelInfo, Searched, Workspace};
 pub use propositions::Propositions;
 pub use refusal::Refusal;
 pub use rules::{judge, read_rule, RuleInfo};
-pub use tables::{build_into, follow, Built, Stepped, Table, Walker};
+pub use tables::{build_into, follow, Built, Table};
 pub use texts::{read_text_into, write_text_into, Rule};
+pub use walkers::{Stepped, Steps, Walker};
 
 /// The most states that a table or a model has.
 pub const STATES: usize = 64;

@@ -52,6 +52,22 @@ pub struct Judged {
     pub uses: u64,
 }
 
+/// A walker, as a host keeps it in a record of its own.
+#[repr(C)]
+#[derive(Debug, Clone, Copy, Default, PartialEq, Eq, Hash)]
+pub struct Walker {
+    /// The states that it may be in, bit q for state q.
+    pub set: u64,
+    /// The final states, bit q for state q.
+    pub finals: u64,
+    /// How many letters it has taken.
+    pub taken: u32,
+    /// How many it had taken at its first match; 0 if there is none yet.
+    pub first: u32,
+    /// 1 if there was a match, else 0; any other number counts as 1.
+    pub matched: u32,
+}
+
 /// What `gc_step` answers.
 #[repr(C)]
 #[derive(Debug, Clone, Copy, Default, PartialEq, Eq)]
@@ -60,13 +76,13 @@ pub struct Stepped {
     pub refused: u64,
     /// Where the refusal is.
     pub place: u64,
-    /// The states that the walker may be in now; after a refusal, those that it came with.
-    pub set: u64,
-    /// 1 if a final state is among them, else 0.
-    pub matched: u64,
+    /// 1 if a final state is in the set now, else 0.
+    pub matches: u64,
+    /// The walker after the step; after a refusal, as it came.
+    pub walker: Walker,
 }
 
-/// What `gc_follow` answers.
+/// What `gc_step_lent` and `gc_follow` answer.
 #[repr(C)]
 #[derive(Debug, Clone, Copy, Default, PartialEq, Eq)]
 pub struct Moved {
@@ -74,7 +90,7 @@ pub struct Moved {
     pub refused: u64,
     /// Where the refusal is.
     pub place: u64,
-    /// 1 if a final state is in the set at the end, else 0.
+    /// 1 if a final state is in the set after the letter, or after all of them; else 0.
     pub matches: u64,
 }
 
@@ -152,7 +168,7 @@ pub struct Lent<'a> {
 }
 
 mod c {
-    use super::{Built, Judged, Lasts, Model, Moved, Rule, Searched, Stepped, Text};
+    use super::{Built, Judged, Lasts, Model, Moved, Rule, Searched, Stepped, Text, Walker};
 
     extern "C" {
         pub fn gc_read_rule(rule: *const u8, rule_len: usize) -> Rule;
@@ -168,13 +184,14 @@ mod c {
             letters: *const u8,
             letters_len: usize,
         ) -> Judged;
-        pub fn gc_step(
-            set: u64,
-            finals: u64,
+        pub fn gc_start(finals: u64) -> Walker;
+        pub fn gc_step(walker: Walker, table: *const u64, table_len: usize, letter: u8) -> Stepped;
+        pub fn gc_step_lent(
+            walker: *mut Walker,
             table: *const u64,
             table_len: usize,
             letter: u8,
-        ) -> Stepped;
+        ) -> Moved;
         pub fn gc_follow(
             table: *const u64,
             table_len: usize,
@@ -248,10 +265,22 @@ pub fn judge(rule: &[u8], letters: &[u8]) -> Judged {
     unsafe { c::gc_judge(rule.as_ptr(), rule.len(), letters.as_ptr(), letters.len()) }
 }
 
-/// `gc_step`: one step of a walker, which is its set and its finals.
-pub fn step(set: u64, finals: u64, table: &[u64], letter: u8) -> Stepped {
+/// `gc_start`: a fresh walker.
+pub fn start(finals: u64) -> Walker {
+    // SAFETY: nothing is lent.
+    unsafe { c::gc_start(finals) }
+}
+
+/// `gc_step`: one step of a walker, which is given back.
+pub fn step(walker: Walker, table: &[u64], letter: u8) -> Stepped {
     // SAFETY: one slice that is only read.
-    unsafe { c::gc_step(set, finals, table.as_ptr(), table.len(), letter) }
+    unsafe { c::gc_step(walker, table.as_ptr(), table.len(), letter) }
+}
+
+/// `gc_step_lent`: the same where the walker stands.
+pub fn step_lent(walker: &mut Walker, table: &[u64], letter: u8) -> Moved {
+    // SAFETY: `walker` is borrowed alone, so it does not overlap `table`, which is only read.
+    unsafe { c::gc_step_lent(walker, table.as_ptr(), table.len(), letter) }
 }
 
 /// `gc_follow`: whether a fresh walker matches at the end of a whole sequence.
@@ -357,7 +386,11 @@ mod tests {
             let built = c::gc_build(rule.0, rule.1, null_mut(), 0);
             assert_eq!(built, build(&empty, &mut []));
             assert_eq!(c::gc_judge(rule.0, rule.1, n, 0), judge(&empty, &[]));
-            assert_eq!(c::gc_step(1, 1, null(), 0, 0), step(1, 1, &[], 0));
+            let fresh = start(1);
+            assert_eq!(c::gc_step(fresh, null(), 0, 0), step(fresh, &[], 0));
+            let mut walker = fresh;
+            let moved = c::gc_step_lent(&mut walker, null(), 0, 0);
+            assert_eq!((moved.refused, walker), (21, fresh));
             assert_eq!(c::gc_follow(null(), 0, 1, n, 0), follow(&[], 1, &[]));
             assert_eq!(c::gc_read_model(n, 0), read_model(&[]));
             assert_eq!(c::gc_lasting(n, 0), lasting(&[]));

@@ -1,7 +1,7 @@
-//! Tables: a rule's automaton, and a walker that follows events through it.
+//! Tables: a rule's automaton, over which events are followed.
 
 use crate::raw;
-use crate::{Propositions, Refusal, ENTRIES, STATES};
+use crate::{Propositions, Refusal, Walker, ENTRIES, STATES};
 
 /// What is known of a built table beside its labels.
 #[derive(Debug, Clone, Copy, PartialEq, Eq)]
@@ -127,78 +127,4 @@ impl AsRef<[u64]> for Table {
 pub fn follow(table: impl AsRef<[u64]>, finals: u64, letters: &[u8]) -> Result<bool, Refusal> {
     let answer = raw::follow(table.as_ref(), finals, letters);
     Refusal::unless(answer.refused, answer.place, answer.matches != 0)
-}
-
-/// The set of states that a table may be in after some events, and the finals.
-///
-/// A walker does not hold its table: each step is lent one, and steps over whatever labels are there.
-///
-/// ```
-/// use gongcollar::Table;
-///
-/// // p0;p1
-/// let table = Table::build(&[0x12, 0x10, 0x01, 0x00, 0x10, 0x01, 0x01])?;
-/// let mut walker = table.walker();
-/// assert!(!walker.advance(&table, 1)?);
-/// assert!(walker.advance(&table, 2)?);
-/// # Ok::<(), gongcollar::Refusal>(())
-/// ```
-#[derive(Debug, Clone, Copy, PartialEq, Eq, Hash)]
-pub struct Walker {
-    set: u64,
-    finals: u64,
-}
-
-/// A walker after a step, and whether it matches now.
-#[derive(Debug, Clone, Copy, PartialEq, Eq)]
-#[non_exhaustive]
-pub struct Stepped {
-    /// The walker, moved by one event.
-    pub walker: Walker,
-    /// Whether a final state is in its set.
-    pub matched: bool,
-}
-
-impl Walker {
-    /// A fresh walker: it is in state 0.
-    pub const fn start(finals: u64) -> Walker {
-        Walker::at(1, finals)
-    }
-
-    /// A walker that may be in any state of a set, bit q for state q.
-    pub const fn at(set: u64, finals: u64) -> Walker {
-        Walker { set, finals }
-    }
-
-    /// The states that it may be in, bit q for state q.
-    pub const fn set(&self) -> u64 {
-        self.set
-    }
-
-    /// The final states, bit q for state q.
-    pub const fn finals(&self) -> u64 {
-        self.finals
-    }
-
-    /// Whether a final state is in its set; for a fresh walker, whether the rule accepts no letters at all.
-    pub const fn matches(&self) -> bool {
-        self.set & self.finals != 0
-    }
-
-    /// The walker after one more event.
-    pub fn step(mut self, table: impl AsRef<[u64]>, letter: u8) -> Result<Stepped, Refusal> {
-        let matched = self.advance(table, letter)?;
-        Ok(Stepped {
-            walker: self,
-            matched,
-        })
-    }
-
-    /// Moves the walker by one event, and says whether it matches now. A refusal leaves it as it was.
-    pub fn advance(&mut self, table: impl AsRef<[u64]>, letter: u8) -> Result<bool, Refusal> {
-        let answer = raw::step(self.set, self.finals, table.as_ref(), letter);
-        // A refused step gives back the set that it came with.
-        self.set = answer.set;
-        Refusal::unless(answer.refused, answer.place, answer.matched != 0)
-    }
 }

@@ -16,7 +16,7 @@
 //! | Definition 2 | `meaning` | [`accepts`] |
 //! | the plain judge | `judge` | [`judge()`] |
 //! | the automaton in the scope document's numbering | `table` | [`build`], [`Table`] |
-//! | the walker | `walk` | [`step`], [`follow`] |
+//! | the walker | `walk` | [`Walker`], [`start`], [`step`], [`follow`] |
 //! | bytes to models | `model` | [`read_model`], [`Model`] |
 //! | which states of a model last | `lasting` | [`lasting()`], [`Lasting`] |
 //! | the search and its count | `search` | [`search()`], [`Searched`] |
@@ -54,4 +54,4 @@ pub use rule::Rule;
 pub use search::{search, Searched};
 pub use table::{build, Table, TABLE_ENTRIES};
 pub use text::{read_text, write_text, Given};
-pub use walk::{follow, step};
+pub use walk::{follow, start, step, Walker};

@@ -1,24 +1,63 @@
-//! The walker: the set of states that a table may be in, moved by one letter at a time.
+//! The walker: the set of states that a table may be in, moved by one letter at a time, and what it remembers.
 
 use crate::formula::LAST_LETTER;
-use crate::refusal::{Refusal, EVENT_LETTER, SLICE_TOO_SHORT};
+use crate::refusal::{Refusal, COUNT_FULL, EVENT_LETTER, SLICE_TOO_SHORT};
 use crate::set::{has, members, only, WORD};
 use crate::table::{entry, TABLE_ENTRIES};
 
 /// Where a walk begins: in state 0 alone.
 pub(crate) const START: u64 = 1;
 
-/// One step over whatever table is lent: the states reached, and whether a final is among them.
-/// Refuses 21, then 22.
-pub fn step(set: u64, finals: u64, table: &[u64], letter: u8) -> Result<(u64, bool), Refusal> {
+/// A walker over some table.
+#[derive(Debug, Clone, Copy, PartialEq, Eq)]
+pub struct Walker {
+    /// The states that it may be in.
+    pub set: u64,
+    /// The final states.
+    pub finals: u64,
+    /// How many letters it has taken.
+    pub taken: u32,
+    /// How many it had taken at its first match; 0 if there is none yet.
+    pub first: u32,
+    /// Whether there was a match.
+    pub matched: bool,
+}
+
+/// A fresh walker: over a rule that accepts the empty sequence it has matched at 0.
+pub fn start(finals: u64) -> Walker {
+    Walker {
+        set: START,
+        finals,
+        taken: 0,
+        first: 0,
+        matched: START & finals != 0,
+    }
+}
+
+/// One step over whatever table is lent: the walker after it, and whether a final is in its set.
+/// Refuses 21, then 22, then 25.
+pub fn step(walker: Walker, table: &[u64], letter: u8) -> Result<(Walker, bool), Refusal> {
     if table.len() < TABLE_ENTRIES {
         return Err(Refusal::at(SLICE_TOO_SHORT, 0));
     }
     if letter > LAST_LETTER {
         return Err(Refusal::at(EVENT_LETTER, 0));
     }
-    let next = reached(set, table, letter);
-    Ok((next, next & finals != 0))
+    let Some(taken) = walker.taken.checked_add(1) else {
+        return Err(Refusal::at(COUNT_FULL, 0));
+    };
+    let set = reached(walker.set, table, letter);
+    let matches = set & walker.finals != 0;
+    let mut next = Walker {
+        set,
+        taken,
+        ..walker
+    };
+    if matches && !walker.matched {
+        next.matched = true;
+        next.first = taken;
+    }
+    Ok((next, matches))
 }
 
 /// Steps from the start through all letters: whether a final is in the last set.
@@ -28,12 +67,13 @@ pub fn follow(table: &[u64], finals: u64, letters: &[u8]) -> Result<bool, Refusa
         return Err(Refusal::at(SLICE_TOO_SHORT, 0));
     }
     let mut set = START;
-    let mut matches = START & finals != 0;
     for (index, &letter) in letters.iter().enumerate() {
-        (set, matches) = step(set, finals, table, letter)
-            .map_err(|refusal| Refusal::at(refusal.number, index))?;
+        if letter > LAST_LETTER {
+            return Err(Refusal::at(EVENT_LETTER, index));
+        }
+        set = reached(set, table, letter);
     }
-    Ok(matches)
+    Ok(set & finals != 0)
 }
 
 /// The states that some member of the set goes to under the letter.

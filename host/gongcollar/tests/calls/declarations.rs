@@ -22,7 +22,7 @@ fn answer(text: &str) -> Answer {
     let (name, fields) = text.split_once(" { ").expect("a struct with fields");
     let fields = listed(fields).map(|field| field.strip_prefix("pub ").expect("a public field"));
     Answer {
-        name: answer_type(name),
+        name: our_type(name),
         fields: fields.map(parameter).collect(),
     }
 }
@@ -34,7 +34,7 @@ fn call(text: &str) -> Call {
     Call {
         name: format!("gc_{name}"),
         parameters: listed(parameters).map(parameter).collect(),
-        answer: answer_type(answer),
+        answer: our_type(answer),
     }
 }
 
@@ -44,15 +44,15 @@ fn parameter(text: &str) -> Part {
     let constant = kind.strip_prefix("*const ");
     let mutable = kind.strip_prefix("*mut ");
     let kind = match (constant, mutable) {
-        (Some(kind), _) => format!("const {} *", c_type(kind)),
-        (_, Some(kind)) => format!("{} *", c_type(kind)),
-        _ => c_type(kind),
+        (Some(kind), _) => format!("const {} *", our_type(kind)),
+        (_, Some(kind)) => format!("{} *", our_type(kind)),
+        _ => our_type(kind),
     };
     part(name, &kind)
 }
 
 /// `Rule` is the crate's name for `gc_rule`.
-fn answer_type(name: &str) -> String {
+fn our_type(name: &str) -> String {
     match name.starts_with(char::is_uppercase) {
         true => format!("gc_{}", c_type(name)),
         false => c_type(name),

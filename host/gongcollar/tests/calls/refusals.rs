@@ -5,7 +5,7 @@ use cases::hostile::joined_left;
 use cases::line_input;
 use cases::rules::{ANY, P0};
 use gongcollar::{build_into, follow, judge, read_model, read_rule, rulecheck};
-use gongcollar::{Refusal, Table, Walker, Workspace};
+use gongcollar::{raw, Refusal, Table, Walker, Workspace};
 use std::fmt::Debug;
 
 /// Faulty rules, with their refusals and the numbers of these.
@@ -126,25 +126,52 @@ fn the_judge_takes_sixteen_letters_below_64() {
     );
 }
 
+/// A walker that has taken so many letters, in some states of the rule's table, with no mark that a start would set.
+fn somewhere(table: &Table, taken: u32) -> Walker {
+    Walker::from(raw::Walker {
+        set: 0b1010,
+        finals: table.finals(),
+        taken,
+        first: 3,
+        matched: 7,
+    })
+}
+
 #[test]
 fn a_refused_step_leaves_the_walker() {
     let table = Table::build(&RULE).unwrap();
-    let mut walker = Walker::at(0b1010, table.finals());
-    let before = walker;
-    refused(
-        walker.advance(&table, 64),
-        Refusal::EventLetter { place: 0 },
-        22,
-    );
-    assert_eq!(walker, before);
     let short = &table.entries()[..4095];
-    refused(
-        walker.advance(short, 64),
-        Refusal::ShortSlice { place: 0 },
-        21,
-    );
-    refused(walker.step([], 0), Refusal::ShortSlice { place: 0 }, 21);
+    for taken in [0, 5, u32::MAX] {
+        let before = somewhere(&table, taken);
+        let mut walker = before;
+        let letter = Refusal::EventLetter { place: 0 };
+        refused(walker.step(&table, 64), letter, 22);
+        refused(walker.stepped(&table, 64), letter, 22);
+        let slice = Refusal::ShortSlice { place: 0 };
+        refused(walker.step(short, 64), slice, 21);
+        refused(walker.stepped([], 0), slice, 21);
+        assert_eq!(walker, before);
+        assert_eq!(raw::step(before.into(), short, 0).walker, before.into());
+    }
+}
+
+#[test]
+fn a_walker_counts_as_far_as_it_can() {
+    let table = Table::build(&RULE).unwrap();
+    let mut walker = somewhere(&table, u32::MAX - 1);
+    assert_eq!(walker.step(&table, 2), Ok(false));
+    assert_eq!(walker.taken(), u32::MAX);
+    let full = Refusal::FullCount { place: 0 };
+    let before = walker;
+    refused(walker.step(&table, 2), full, 25);
+    refused(walker.stepped(&table, 2), full, 25);
     assert_eq!(walker, before);
+    // Also where the set is empty, and nothing could come of another letter.
+    let mut nowhere = Walker::from(raw::Walker {
+        set: 0,
+        ..before.into()
+    });
+    refused(nowhere.step(&table, 2), full, 25);
 }
 
 #[test]

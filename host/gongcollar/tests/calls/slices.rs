@@ -181,12 +181,26 @@ fn a_refusal_has_no_other_field() {
         ..Default::default()
     };
     assert_eq!(raw::search(&[0x12], &[], &mut slices.lent()), searched);
+    let walker = raw::Walker {
+        set: 5,
+        finals: 7,
+        taken: 9,
+        first: 2,
+        matched: 3,
+    };
     let stepped = raw::Stepped {
         refused: 21,
-        set: 5,
+        walker,
         ..Default::default()
     };
-    assert_eq!(raw::step(5, 7, &[], 64), stepped);
+    assert_eq!(raw::step(walker, &[], 64), stepped);
+    let mut lent = walker;
+    let moved = raw::Moved {
+        refused: 21,
+        ..Default::default()
+    };
+    assert_eq!(raw::step_lent(&mut lent, &[], 64), moved);
+    assert_eq!(lent, walker);
     let moved = raw::Moved {
         refused: 22,
         place: 1,

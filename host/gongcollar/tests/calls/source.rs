@@ -56,7 +56,7 @@ fn call(text: &str) -> Call {
     }
 }
 
-/// `rule: &[u8]`: a slice is a pointer and a count.
+/// `rule: &[u8]`: a slice is a pointer and a count; `walker: &mut GcWalker`: a struct that is lent is a pointer.
 fn parameters_of(text: &str) -> Vec<Part> {
     let (name, kind) = text.split_once(": ").expect("a name and a type");
     let entry = |kind: &str| c_type(kind.trim_end_matches(']'));
@@ -66,9 +66,13 @@ fn parameters_of(text: &str) -> Vec<Part> {
     let written = kind
         .strip_prefix("&mut [")
         .map(|kind| format!("{} *", entry(kind)));
-    match read.or(written) {
-        Some(pointer) => vec![part(name, &pointer), part(&format!("{name}_len"), "size_t")],
-        None => vec![part(name, &c_type(kind))],
+    let lent = kind
+        .strip_prefix("&mut ")
+        .map(|kind| format!("{} *", c_type(kind)));
+    match (read.or(written), lent) {
+        (Some(slice), _) => vec![part(name, &slice), part(&format!("{name}_len"), "size_t")],
+        (None, Some(pointer)) => vec![part(name, &pointer)],
+        (None, None) => vec![part(name, &c_type(kind))],
     }
 }
 
@@ -100,8 +104,12 @@ fn exchanged_fields_and_parameters_are_seen() {
             "pub lasting: u64, pub states: u64",
         ),
         (
-            "set: u64, finals: u64, table",
-            "finals: u64, set: u64, table",
+            "pub taken: u32, pub first: u32",
+            "pub first: u32, pub taken: u32",
+        ),
+        (
+            "gc_step_lent(walker: &mut GcWalker",
+            "gc_step_lent(walker: GcWalker",
         ),
         (
             "gc_judge(rule: &[u8], letters: &[u8])",
@@ -111,8 +119,15 @@ fn exchanged_fields_and_parameters_are_seen() {
             "work1: &mut [u16], work2: &mut [u16]",
             "work2: &mut [u16], work1: &mut [u16]",
         ),
-        ("letter: u8", "letter: u64"),
-        ("pub matched: u64", "pub matched: u32"),
+        (
+            "gc_step(walker: GcWalker, table: &[u64], letter: u8)",
+            "gc_step(walker: GcWalker, table: &[u64], letter: u64)",
+        ),
+        ("pub matched: u32", "pub matched: u64"),
+        (
+            "pub matches: u64, pub walker: GcWalker",
+            "pub walker: GcWalker, pub matches: u64",
+        ),
         ("text: &[u8], out: &mut [u8]", "text: &[u8], out: &[u8]"),
     ] {
         assert_eq!(source.matches(ours).count(), 1, "{ours}");

@@ -4,7 +4,7 @@ use crate::inputs::{dead_end, pair, state, three_states, two_of_three, P1, RULE}
 use cases::hostile::joined_left;
 use cases::rules::P0;
 use cases::{heavy, line_input, models};
-use gongcollar::{follow, judge, lasting, read_model, read_rule, rulecheck};
+use gongcollar::{follow, judge, lasting, read_model, read_rule, rulecheck, Refusal, Table, Workspace};
 use gongcollar::{Refusal, Table, Walker, Workspace};
 
 const LABEL_P0: u64 = 0xAAAA_AAAA_AAAA_AAAA;
@@ -17,8 +17,8 @@ fn accepts(rule: &[u8], letters: &[u8]) -> bool {
     let table = Table::build(rule).unwrap();
     let mut walker = table.walker();
     for &letter in letters {
-        let matched = walker.advance(&table, letter).unwrap();
-        assert_eq!(matched, walker.matches());
+        let matches = walker.step(&table, letter).unwrap();
+        assert_eq!(matches, walker.matches());
     }
     assert_eq!(walker.matches(), judged);
     assert_eq!(table.follow(letters), Ok(judged));
@@ -67,12 +67,60 @@ fn the_worked_table() {
 #[test]
 fn the_worked_walk() {
     let table = Table::build(&RULE).unwrap();
-    let after_p0 = table.walker().step(&table, 1).unwrap();
-    assert_eq!(after_p0.walker, Walker::at(0b10, table.finals()));
-    assert!(!after_p0.matched);
-    let after_both = after_p0.walker.step(table.entries(), 6).unwrap();
+    let after_p0 = table.walker().stepped(&table, 1).unwrap();
+    assert_eq!(after_p0.walker.set(), 0b10);
+    assert!(!after_p0.matches);
+    let after_both = after_p0.walker.stepped(table.entries(), 6).unwrap();
     assert_eq!(after_both.walker.set(), 1 << 3 | 1 << 5);
-    assert!(after_both.matched);
+    assert!(after_both.matches);
+    assert_eq!(after_both.walker.first_match(), Some(2));
+}
+
+/// The letters that a walker takes, and at how many it has matched first after each.
+fn firsts(rule: &[u8], letters: &[u8]) -> Vec<Option<u32>> {
+    let table = Table::build(rule).unwrap();
+    let mut walker = table.walker();
+    let mut firsts = vec![walker.first_match()];
+    for (index, &letter) in letters.iter().enumerate() {
+        let by_value = walker.stepped(&table, letter).unwrap();
+        assert_eq!(walker.step(&table, letter), Ok(by_value.matches));
+        assert_eq!(walker, by_value.walker);
+        assert_eq!(walker.taken() as usize, index + 1);
+        firsts.push(walker.first_match());
+    }
+    firsts
+}
+
+#[test]
+fn the_first_match_is_remembered() {
+    let star: &[u8] = &[0x17, 0x10, 0x01, 0x00];
+    assert_eq!(firsts(star, &[1, 0, 1]), [Some(0); 4]);
+    assert_eq!(firsts(&P0, &[1, 1]), [None, Some(1), Some(1)]);
+    assert_eq!(firsts(&P0, &[2, 1]), [None; 3]);
+    let plus: &[u8] = &[0x18, 0x10, 0x01, 0x00];
+    assert_eq!(firsts(plus, &[1, 1]), [None, Some(1), Some(1)]);
+    let late = firsts(&RULE, &[1, 2, 2, 2, 4, 4]);
+    assert_eq!(late[..5], [None; 5]);
+    assert_eq!(late[5..], [Some(5); 2]);
+}
+
+#[test]
+fn events_are_followed_as_they_come() {
+    let table = Table::build(&RULE).unwrap();
+    let mut walker = table.walker();
+    let day = [1, 2, 64, 2, 4];
+    let said: Vec<_> = walker.steps(&table, day).collect();
+    let refusal = Refusal::EventLetter { place: 0 };
+    assert_eq!(
+        said,
+        [Ok(false), Ok(false), Err(refusal), Ok(false), Ok(true)]
+    );
+    assert_eq!((walker.taken(), walker.first_match()), (4, Some(4)));
+    // From a slice too; and what is not asked for is not taken.
+    let mut walker = table.walker();
+    assert_eq!(walker.steps(&table, &day).take(2).count(), 2);
+    assert_eq!(walker.taken(), 2);
+    assert_eq!(walker.steps(&table, &day).size_hint(), (5, Some(5)));
 }
 
 #[test]

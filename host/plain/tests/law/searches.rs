@@ -4,7 +4,7 @@ use std::collections::BTreeSet;
 
 use crate::draw::Draw;
 use crate::spell::*;
-use plain::{accepts, build, read_model, read_rule, search, step};
+use plain::{accepts, build, read_model, read_rule, search, start, step};
 use plain::{Model, Rule, Searched, Table, TABLE_ENTRIES};
 
 fn found(run: &[u8], pairs: u64) -> Searched {
@@ -218,11 +218,11 @@ impl Case {
     }
 
     fn table_states(&self, run: &[u8]) -> u64 {
-        self.letters(run).iter().fold(1, |set, &letter| {
-            step(set, self.table.finals, &self.table.labels, letter)
-                .unwrap()
-                .0
-        })
+        let fresh = start(self.table.finals);
+        let after = self.letters(run).iter().fold(fresh, |walker, &letter| {
+            step(walker, &self.table.labels, letter).unwrap().0
+        });
+        after.set
     }
 
     /// The pairs that a run meets at its end.

@@ -1,24 +1,47 @@
--- `step` meets its contract: each of its three ways out is one line of `stepOf`. Assumes nothing.
+-- `step` meets its contract: each of its four ways out is one line of `stepOf`. Assumes nothing.
 use native.Mathlib.Omega.{arith}
 use borrow.Author.Needs.{needs}
-use Rattle.walkers.proofs.Answers.{step-short, step-bad, step-moved}
+use Rattle.walkers.proofs.Answers.{step-short, step-bad, step-full, step-moved}
 use Rattle.walkers.proofs.Walker.step.Statement.{statement}
 use Rattle.walkers.proofs.Walker.step.Tie as tie
 
+refused-requires : tie.Need-refused-requires
+refused-requires c κs = search needs
+
 returns : tie.Need-returns
-returns c = step-short _ _ _ (omega arith)
+returns c = step-short _ _ _ (c .refused .result) (c .refused .ensures) (omega arith)
+
+refused-requires-2 : tie.Need-refused-requires-2
+refused-requires-2 c κs = search needs
 
 returns-2 : tie.Need-returns-2
-returns-2 c = step-bad _ _ _ (omega arith) (omega arith)
+returns-2 c = step-bad _ _ _ (c .refused2 .result) (c .refused2 .ensures) (omega arith) (omega arith)
+
+refused-requires-3 : tie.Need-refused-requires-3
+refused-requires-3 c κs = search needs
+
+returns-3 : tie.Need-returns-3
+returns-3 c = step-full _ _ _ (c .refused3 .result) (c .refused3 .ensures) (omega arith) (omega arith) (omega arith)
 
 advance-requires : tie.Need-advance-requires
 advance-requires c κs = omega arith
 
-at-requires : tie.Need-at-requires
-at-requires c κs = search needs
+led-to-requires : tie.Need-led-to-requires
+led-to-requires c κs = omega arith
 
-returns-3 : tie.Need-returns-3
-returns-3 c = step-moved _ _ _ _ _ (omega arith) (omega arith) (c .before .before .advance .ensures) (c .before .at .ensures)
+returns-4 : tie.Need-returns-4
+returns-4 c = step-moved _ _ _ _ _ (omega arith) (omega arith) (omega arith) (c .before .before .advance .ensures) (c .before .led-to .ensures)
 
 pub step-spec : {M : Type 1} → statement M
-step-spec = tie.close (tie.spec returns returns-2 advance-requires at-requires returns-3)
+step-spec =
+    tie.close
+    (tie.spec
+    refused-requires
+    returns
+    refused-requires-2
+    returns-2
+    refused-requires-3
+    returns-3
+    advance-requires
+    led-to-requires
+    returns-4)
