@@ -12,3 +12,7 @@ badLetter = 22
 -- there are more letters than the plain judge takes
 abbrev pub tooManyLetters : ℕ
 tooManyLetters = 23
+
+-- what is lent as a table is none: its weight is 0 or above 64, or a final or a label lies outside it
+abbrev pub noTable : ℕ
+noTable = 24
