@@ -27,9 +27,7 @@ shared-slice-read-q c = search needs
 get-requires : tie.Need-get-requires
 get-requires c κs =
     let s = c .before .before .before .before .before .before in
-    let p = s .pre .2 .inside (s .args .i) (omega arith) in
-    let q = s .pre .2 .inside (s .args .j) (omega arith) in
-    (omega (arith, p, q), p, q)
+    omega (arith, s .pre .2 .inside (s .args .i) (omega arith), s .pre .2 .inside (s .args .j) (omega arith))
 
 returns-3 : tie.Need-returns-3
 returns-3 c = c .get .ensures ∙ sym (moved-here _ _ _ _ _ (omega arith) (omega arith))
