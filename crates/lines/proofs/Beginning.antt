@@ -9,15 +9,18 @@ use lib.Seq.{take-all, take-take, getD-take, getD-drop}
 use Rattle.models.specs.Stored.{modelOf}
 use Rattle.models.specs.Answer as models
 use Rattle.models.proofs.Beginning.{long-alike}
-use Rattle.search.specs.Answer.{Slices, Result, told, Searches, SearchRight, rule-refused, model-refused, short-slice, searched}
+use Rattle.search.specs.Answer.{Slices, Result, told, Searches, SearchRefused, of-rule, of-model, short-slice, SearchRight, refusal, searched}
 use Rattle.lines.specs.Input.{ruleIn, modelIn}
 use Rattle.lines.specs.Line.{fresh, LineOf}
 
 -- a search says the same of models that are answered alike
+refused-alike : {rule g g′ : List ℕ} {l : Slices} {n p : ℕ} → models.answer g ≡ models.answer g′ → SearchRefused rule g l n p → SearchRefused rule g′ l n p
+refused-alike e (of-rule q) = of-rule q
+refused-alike e (of-model f v) = of-model f (ap (λ (x : models.Result). x .verdict) (sym e) ∙ v)
+refused-alike e (short-slice f v l) = short-slice f (ap (λ (x : models.Result). x .verdict) (sym e) ∙ v) l
+
 alike : {rule g g′ : List ℕ} {b a : Slices} {r : Result} → models.answer g ≡ models.answer g′ → SearchRight rule g b a r → SearchRight rule g′ b a r
-alike e (rule-refused q z) = rule-refused q z
-alike e (model-refused f v z) = model-refused f (ap (λ (x : models.Result). x .verdict) (sym e) ∙ v) z
-alike e (short-slice f v l z) = short-slice f (ap (λ (x : models.Result). x .verdict) (sym e) ∙ v) l z
+alike e (refusal q z) = refusal (refused-alike e q) z
 alike {rule} {g} {g′} {b} {a} e (searched {f} {n} {r} k v l z) =
     searched k (ap (λ (x : models.Result). x .verdict) (sym e) ∙ v) l (subst (λ (x : models.Result). Searches rule f (modelOf (x .model)) b a r) e z)
 

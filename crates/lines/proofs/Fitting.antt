@@ -16,7 +16,7 @@ use Rattle.search.specs.declared.inner.Searched.the-variants.{Found, Nothing}
 use Rattle.search.specs.declared.SearchAnswer.{SearchAnswer}
 use Rattle.search.specs.declared.SearchAnswer.the-variants.{Answered, Refused}
 use Rattle.search.specs.Right.{Answer, found, Right}
-use Rattle.search.specs.Answer.{Slices, Result, answered, SearchRight, rule-refused, model-refused, short-slice, searched, told}
+use Rattle.search.specs.Answer.{Slices, Result, answered, SearchRight, refusal, searched, told}
 use Rattle.writing.specs.Decimal.{named}
 use Rattle.writing.specs.Refused.{refusedText}
 use Rattle.lines.specs.Text.{foundWord, pairsWord, colon, noneWord, statesText, foundText, noneText}
@@ -44,13 +44,11 @@ refused-room number place h k = let a = refused-short number place h k in omega 
 -- a find's length is the run's, and none of the run's states is above 63
 module _ (rule model : List ℕ) (before after : Slices) (bytes : (i : ℕ) → getD model i 0 < 256) (k : Known) (long c : ℕ) (run : List ℕ) where
   found-short : {x : Result} → SearchRight rule model before after x → x ≡ answered k long (found run c) → (long ≡ length run) × (length (statesText run) ≤ 3 * length run)
-  found-short (rule-refused q e) w = let z : _≡_ {A = ℕ} 0 1 = cc in absurd (omega arith)
-  found-short (model-refused f v e) w = let z : _≡_ {A = ℕ} 0 1 = cc in absurd (omega arith)
-  found-short (short-slice f v l e) w = let z : _≡_ {A = ℕ} 0 1 = cc in absurd (omega arith)
+  found-short (refusal q e) w = let z : _≡_ {A = ℕ} 0 1 = cc in absurd (omega arith)
   found-short (searched {f} {n} {r} e v l z) w =
       let g : r ≡ found run c = cc in
       let M : Model = modelOf (models.answer model .model) in
-      let right : Right LastingRun M (tableOf (after .table) (weightOf f) (z .finals)) f (found run c) = subst (λ (y : Answer). Right LastingRun M (tableOf (after .table) (weightOf f) (z .finals)) f y) g (z .right) in
+      let right : Right LastingRun M (tableOf (after .table) (weightOf f) (z .finals)) f (found run c) = subst (λ (y : Answer). Right LastingRun M (tableOf (after .table) (weightOf f) (z .finals)) f y) g (z .done .right) in
       (cc, states-short M (answer-held model bytes .sound .few) (M .initial) run (right .0 .matches .0 .0 .1))
 
 -- so the text of every answer has room

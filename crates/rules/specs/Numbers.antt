@@ -13,6 +13,10 @@ badLetter = 22
 abbrev pub tooManyLetters : ℕ
 tooManyLetters = 23
 
+-- what is lent as a table is none: its weight is 0 or above 64, or a final or a label lies outside it
+abbrev pub noTable : ℕ
+noTable = 24
+
 -- a walker's count of letters is at its largest
 abbrev pub fullCount : ℕ
 fullCount = 25

@@ -31,7 +31,7 @@ count-same f g (counted {n = n} p a) (passed q b) = absurd (q (f n p))
 count-same f g (passed {n = n} p a) (counted q b) = absurd (p (g n q))
 count-same f g (passed p a) (passed q b) = count-same f g a b
 
-shown-same : {Runs : Model → List ℕ → Type 0} {M : Model} {f : Rule} {r u : List ℕ} → Shown Runs M f r → Shown Runs M f u → r ≡ u
+pub shown-same : {Runs : Model → List ℕ → Type 0} {M : Model} {f : Rule} {r u : List ℕ} → Shown Runs M f r → Shown Runs M f u → r ≡ u
 shown-same {r = r} {u = u} a b = go (a .first u (b .matches) (sym same)) (b .first r (a .matches) same)
   where
     same : length r ≡ length u

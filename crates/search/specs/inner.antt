@@ -1,3 +1,4 @@
+pub mod Inputs
 pub mod Passes
 pub mod Waves
 pub mod Uses

@@ -1,0 +1,13 @@
+pub mod Numbers
+pub mod Ways
+pub mod Same
+pub mod Again
+pub mod Once
+pub mod Lone
+pub mod Built
+pub mod Strays
+pub mod Growing
+pub mod Keeping
+pub mod Listing
+pub mod Moving
+pub mod Trimming

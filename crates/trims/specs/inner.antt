@@ -1,0 +1,4 @@
+pub mod Outside
+pub mod Grown
+pub mod Lists
+pub mod Moves
