@@ -7,5 +7,6 @@ mod judging; // the plain judge
 mod stepping; // a walker
 mod following; // a whole sequence
 mod searching; // a model, for a rule
+mod trimming; // a table without the states that do no work
 mod checking; // one input, as a line
 mod texting; // a rule as text
