@@ -24,6 +24,10 @@ use Rattle.search.specs.declared.SearchAnswer.{SearchAnswer}
 use Rattle.search.specs.declared.SearchAnswer.the-variants.{Answered}
 use Rattle.search.specs.declared.inner.Searched.{Searched}
 use Rattle.search.specs.Answer as search
+use Rattle.trims.specs.declared.TrimAnswer.{TrimAnswer}
+use Rattle.trims.specs.Answer as trims
+use Rattle.trimmed_search.specs.Answer.{TrimmedSearchRight}
+use Rattle.exports.specs.declared.trimming.GcTrimmed.{GcTrimmed}
 use Rattle.texts.specs.declared.TextAnswer.{TextAnswer}
 use Rattle.texts.specs.Answer as texts
 use Rattle.exports.specs.declared.reading.GcRule.{GcRule}
@@ -35,9 +39,9 @@ use Rattle.exports.specs.declared.stepping.GcStepped.{GcStepped}
 use Rattle.exports.specs.declared.following.GcMoved.{GcMoved}
 use Rattle.exports.specs.declared.lasting_states.GcLasts.{GcLasts}
 use Rattle.exports.specs.declared.searching.GcSearched.{GcSearched}
-use Rattle.exports.specs.Numbers.{ruleNumbers, stateNumbers, builtNumbers, judgedNumbers, movedNumbers, lastingNumbers, searchedNumbers, textNumbers, walkerNumbers, beside, steppedNumbers}
+use Rattle.exports.specs.Numbers.{ruleNumbers, stateNumbers, builtNumbers, judgedNumbers, movedNumbers, lastingNumbers, searchedNumbers, textNumbers, walkerNumbers, beside, steppedNumbers, trimmedNumbers}
 use Rattle.exports.specs.declared.texting.GcText.{GcText}
-use Rattle.exports.specs.Promise.{GcSearches}
+use Rattle.exports.specs.Promise.{GcSearches, GcSearchesTrimmed}
 
 -- what is right of the case is right of the answer
 pub by-case : {A B : Type 0} (f : A → B) {a case : A} → a ≡ case → {r : B} → r ≡ f case → r ≡ f a
@@ -75,6 +79,9 @@ lastingOf a = lastingNumbers (lasting.told a)
 abbrev pub searchedOf : List ℕ → SearchAnswer → GcSearched
 searchedOf run a = searchedNumbers (search.told a run)
 
+abbrev pub trimmedOf : TrimAnswer → GcTrimmed
+trimmedOf a = trimmedNumbers (trims.told a)
+
 abbrev pub textsOf : TextAnswer → GcText
 textsOf a = textNumbers (texts.told a)
 
@@ -86,3 +93,7 @@ answered-as {k = k} e e′ = e ∙ ap (λ (z : Searched). Answered z k) e′
 pub searches : {rule model : List ℕ} {before after : search.Slices} (x : SearchAnswer) {r : GcSearched} → search.SearchRight rule model before after (search.told x (after .run))
     → ((run : List ℕ) → r ≡ searchedOf run x) → GcSearches rule model before after r
 searches {after = after} x right given = record { answer = x; right = right; given = given (after .run) }
+
+pub searches-trimmed : {rule model : List ℕ} {before after : search.Slices} (x : SearchAnswer) {r : GcSearched} → TrimmedSearchRight rule model before after (search.told x (after .run))
+    → ((run : List ℕ) → r ≡ searchedOf run x) → GcSearchesTrimmed rule model before after r
+searches-trimmed {after = after} x right given = record { answer = x; right = right; given = given (after .run) }

@@ -29,8 +29,13 @@ use Rattle.exports.specs.declared.stepping.GcStepped.{GcStepped}
 use Rattle.exports.specs.declared.following.GcMoved.{GcMoved}
 use Rattle.exports.specs.declared.lasting_states.GcLasts.{GcLasts}
 use Rattle.exports.specs.declared.searching.GcSearched.{GcSearched}
-use Rattle.exports.specs.Numbers.{ruleNumbers, modelNumbers, builtNumbers, judgedNumbers, steppedNumbers, movedNumbers, lastingNumbers, searchedNumbers, textNumbers, walkerOf, walkerNumbers, beside}
-use Rattle.exports.specs.Promise.{GcBuilds, GcJudges, GcLasting, GcSearches, ReadsText, WritesText}
+use Rattle.exports.specs.Numbers.{ruleNumbers, modelNumbers, builtNumbers, judgedNumbers, steppedNumbers, movedNumbers, lastingNumbers, searchedNumbers, textNumbers, walkerOf, walkerNumbers, beside, trimmedNumbers}
+use Rattle.exports.specs.Promise.{GcBuilds, GcJudges, GcLasting, GcSearches, ReadsText, WritesText, GcTrims, GcSearchesTrimmed}
+use Rattle.trims.specs.declared.TrimAnswer.{TrimAnswer}
+use Rattle.trims.specs.Answer as trims
+use Rattle.trims.proofs.Once as trims-once
+use Rattle.trimmed_search.proofs.Once.{one-trimmed-answer}
+use Rattle.exports.specs.declared.trimming.GcTrimmed.{GcTrimmed}
 use Rattle.texts.specs.Answer as texts
 use Rattle.texts.proofs.Once as texts-once
 use Rattle.exports.specs.declared.texting.GcText.{GcText}
@@ -75,6 +80,16 @@ one-lasting g r r′ x x′ =
 pub one-search : (s g : List ℕ) (b a d : search.Slices) (r r′ : GcSearched) → Words (a .table) → Words (d .table) → GcSearches s g b a r → GcSearches s g b d r′ → (r ≡ r′) × (a ≡ d)
 one-search s g b a d r r′ ha hd x x′ =
     let o = search-once.one-search-answer s g b a d (x .answer) (x′ .answer) ha hd (x .right) (x′ .right) in
+    (x .given ∙ ap₂ (λ (y : SearchAnswer) (l : search.Slices). searchedNumbers (search.told y (l .run))) (o .0) (o .1) ∙ sym (x′ .given), o .1)
+
+pub one-trim : (t u v : List ℕ) (n f : ℕ) (r r′ : GcTrimmed) → GcTrims t u n f r → GcTrims t v n f r′ → (r ≡ r′) × (u ≡ v)
+one-trim t u v n f r r′ x x′ =
+    let o = trims-once.one-answer t u v n f (x .answer) (x′ .answer) (x .right) (x′ .right) in
+    (x .given ∙ ap (λ (a : TrimAnswer). trimmedNumbers (trims.told a)) (o .0) ∙ sym (x′ .given), o .1)
+
+pub one-search-trimmed : (s g : List ℕ) (b a d : search.Slices) (r r′ : GcSearched) → GcSearchesTrimmed s g b a r → GcSearchesTrimmed s g b d r′ → (r ≡ r′) × (a ≡ d)
+one-search-trimmed s g b a d r r′ x x′ =
+    let o = one-trimmed-answer s g b a d (x .answer) (x′ .answer) (x .right) (x′ .right) in
     (x .given ∙ ap₂ (λ (y : SearchAnswer) (l : search.Slices). searchedNumbers (search.told y (l .run))) (o .0) (o .1) ∙ sym (x′ .given), o .1)
 
 pub one-read-text : (s before u v : List ℕ) (r r′ : GcText) → ReadsText s before u r → ReadsText s before v r′ → (r ≡ r′) × (u ≡ v)

@@ -12,6 +12,7 @@ use Rattle.walkers.specs.Steps as walkers
 use Rattle.lasting.specs.Answer as lasting
 use Rattle.search.specs.Right.{found, nothing}
 use Rattle.search.specs.Answer as search
+use Rattle.trims.specs.Answer as trims
 use Rattle.texts.specs.Answer as texts
 use Rattle.exports.specs.declared.reading.GcRule.{GcRule}
 use Rattle.exports.specs.declared.reading.GcModel.{GcModel}
@@ -22,6 +23,7 @@ use Rattle.exports.specs.declared.stepping.GcStepped.{GcStepped}
 use Rattle.exports.specs.declared.following.GcMoved.{GcMoved}
 use Rattle.exports.specs.declared.lasting_states.GcLasts.{GcLasts}
 use Rattle.exports.specs.declared.searching.GcSearched.{GcSearched}
+use Rattle.exports.specs.declared.trimming.GcTrimmed.{GcTrimmed}
 use Rattle.exports.specs.declared.texting.GcText.{GcText}
 
 -- yes is 1, no is 0
@@ -80,6 +82,10 @@ abbrev pub searchedNumbers : search.Result → GcSearched
 searchedNumbers (search.answered k n (found r c)) = record { refused = 0; place = 0; found = 1; length = n; pairs = c; uses = k .uses }
 searchedNumbers (search.answered k n (nothing c)) = record { refused = 0; place = 0; found = 0; length = 0; pairs = c; uses = k .uses }
 searchedNumbers (search.refused n p) = record { refused = n; place = p; found = 0; length = 0; pairs = 0; uses = 0 }
+
+abbrev pub trimmedNumbers : trims.Result → GcTrimmed
+trimmedNumbers (trims.trimmed n f) = record { refused = 0; place = 0; weight = n; finals = f }
+trimmedNumbers (trims.refused n p) = record { refused = n; place = p; weight = 0; finals = 0 }
 
 abbrev pub textNumbers : texts.Result → GcText
 textNumbers (texts.given n k) = record { refused = 0; place = 0; length = n; weight = k .weight; uses = k .uses }

@@ -11,14 +11,18 @@ use Rattle.lasting.specs.declared.LastingAnswer.{LastingAnswer}
 use Rattle.lasting.specs.Answer as lasting
 use Rattle.search.specs.declared.SearchAnswer.{SearchAnswer}
 use Rattle.search.specs.Answer as search
+use Rattle.trims.specs.declared.TrimAnswer.{TrimAnswer}
+use Rattle.trims.specs.Answer as trims
+use Rattle.trimmed_search.specs.Answer.{TrimmedSearchRight}
 use Rattle.texts.specs.declared.TextAnswer.{TextAnswer}
 use Rattle.texts.specs.Answer as texts
 use Rattle.exports.specs.declared.building.GcBuilt.{GcBuilt}
 use Rattle.exports.specs.declared.judging.GcJudged.{GcJudged}
 use Rattle.exports.specs.declared.lasting_states.GcLasts.{GcLasts}
 use Rattle.exports.specs.declared.searching.GcSearched.{GcSearched}
+use Rattle.exports.specs.declared.trimming.GcTrimmed.{GcTrimmed}
 use Rattle.exports.specs.declared.texting.GcText.{GcText}
-use Rattle.exports.specs.Numbers.{builtNumbers, judgedNumbers, lastingNumbers, searchedNumbers, textNumbers}
+use Rattle.exports.specs.Numbers.{builtNumbers, judgedNumbers, lastingNumbers, searchedNumbers, textNumbers, trimmedNumbers}
 
 -- gc_build: the rule's bytes s, and the table slice before and after
 pub record GcBuilds (s t t′ : List ℕ) (r : GcBuilt) : Type 0 where
@@ -42,6 +46,18 @@ pub record GcLasting (g : List ℕ) (r : GcLasts) : Type 0 where
 pub record GcSearches (rule model : List ℕ) (before after : search.Slices) (r : GcSearched) : Type 0 where
   pub answer : SearchAnswer
   pub right : search.SearchRight rule model before after (search.told answer (after .run))
+  pub given : r ≡ searchedNumbers (search.told answer (after .run))
+
+-- gc_trim: the table slice before and after, the stated weight n and finals f
+pub record GcTrims (t t′ : List ℕ) (n f : ℕ) (r : GcTrimmed) : Type 0 where
+  pub answer : TrimAnswer
+  pub right : trims.TrimRight t t′ n f (trims.told answer)
+  pub given : r ≡ trimmedNumbers (trims.told answer)
+
+-- gc_search_trimmed: as gc_search
+pub record GcSearchesTrimmed (rule model : List ℕ) (before after : search.Slices) (r : GcSearched) : Type 0 where
+  pub answer : SearchAnswer
+  pub right : TrimmedSearchRight rule model before after (search.told answer (after .run))
   pub given : r ≡ searchedNumbers (search.told answer (after .run))
 
 -- gc_read_text: the text s, and the output before and after

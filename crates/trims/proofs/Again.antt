@@ -36,7 +36,7 @@ module _ {t t′ : List ℕ} {n f n′ f′ : ℕ} (s : Stands t n f) (z : Trimm
   kept-new i q e (start d) = start (sym e ∙ ap (new s z) d ∙ number-zero (z .kept))
   kept-new i q e (passes r d) = subst (λ (x : ℕ). Kept t′ n′ f′ x) e (passes (reach-new s z r d) (ends-new s z d r))
 
-  all-kept : (i : ℕ) → i < n′ → Kept t′ n′ f′ i
+  pub all-kept : (i : ℕ) → i < n′ → Kept t′ n′ f′ i
   all-kept i l =
       let c = number-onto (z .kept) i (omega (arith, z .weight)) in
       kept-new i (c .0) (c .2) (z .states .states .holds (c .0) (c .1))
