@@ -53,7 +53,7 @@ fn searched_numbers(answer: SearchAnswer) -> GcSearched
     }
 }
 
-// GcSearches the model for the rule.
+// Searches the model for the rule.
 #[no_mangle]
 pub extern "C" fn gc_search(
     rule: &[u8],
