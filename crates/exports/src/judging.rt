@@ -34,7 +34,7 @@ fn judged_numbers(answer: JudgeAnswer) -> GcJudged
     }
 }
 
-// GcJudges the letters by the rule.
+// Judges the letters by the rule.
 #[no_mangle]
 pub extern "C" fn gc_judge(rule: &[u8], letters: &[u8]) -> GcJudged
     ensures { λ r. ⌜ GcJudges (now (rule .entry)) (now (letters .entry)) r ⌝ }

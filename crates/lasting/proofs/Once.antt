@@ -14,7 +14,7 @@ use Rattle.models.proofs.Once as models-once
 use Rattle.lasting.specs.declared.LastingAnswer.{LastingAnswer}
 use Rattle.lasting.specs.declared.LastingAnswer.the-variants.{Lasting, Refused}
 use Rattle.lasting.specs.Endless.{EndlessSet}
-use Rattle.lasting.specs.inner.Stored.{aliveData, WithoutDeadEnds}
+use Rattle.lasting.specs.Stored.{aliveData, WithoutDeadEnds}
 use Rattle.lasting.specs.Answer.{Result, lasts, refused, told, LastingRight, model-refused, lasting}
 
 pub one-set : {n : ℕ} {next : ℕ → ℕ → Bool} (w v : ℕ) → EndlessSet n next w → EndlessSet n next v → w ≡ v

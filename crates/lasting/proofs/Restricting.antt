@@ -18,7 +18,7 @@ use Rattle.models.proofs.Columns.{column-long, column-at, column-past}
 use Rattle.lasting.specs.Endless.{EndlessSet, LastingSet}
 use Rattle.lasting.specs.Alive.{alive}
 use Rattle.lasting.specs.inner.Kept.{follows}
-use Rattle.lasting.specs.inner.Stored.{keptWays, aliveData, WithoutDeadEnds}
+use Rattle.lasting.specs.Stored.{keptWays, aliveData, WithoutDeadEnds}
 use Rattle.lasting.proofs.Ways.{endless-from}
 
 and-left : (a b : Bool) → a && b ≡ true → a ≡ true

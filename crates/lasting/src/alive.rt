@@ -3,7 +3,7 @@ ghost use mathlib.Core.Path.{_≡_};
 ghost use Prim.Native.Nat.{_≤_};
 ghost use Rattle.models.specs.Model.{modelStates};
 ghost use Rattle.models.specs.Stored.{Held, column};
-ghost use Rattle.lasting.specs.inner.Stored.{keptWays, WithoutDeadEnds};
+ghost use Rattle.lasting.specs.Stored.{keptWays, WithoutDeadEnds};
 use crate::rounds::lasting_states;
 use models::ModelData;
 

@@ -10,16 +10,16 @@ use Rattle.models.specs.declared.ModelData.{ModelData}
 use Rattle.models.specs.Stored.{modelOf}
 use Rattle.lasting.specs.Endless.{LastingRun, LastingSet}
 use Rattle.lasting.specs.Alive.{alive}
-use Rattle.lasting.specs.inner.Stored.{WithoutDeadEnds}
+use Rattle.lasting.specs.Stored.{WithoutDeadEnds}
 use Rattle.lasting.proofs.Ways.{lasting-alive, alive-lasting}
 use Rattle.search.specs.declared.inner.Searched.{Searched}
-use Rattle.search.specs.Right.{Matches, Shown, Reached, Pairs, Answer, found, nothing, Right, Bounded}
+use Rattle.search.specs.Right.{RunKind, Matches, Shown, Reached, Pairs, Answer, found, nothing, Right, Bounded}
 use Rattle.search.specs.Told.{answerOf, SearchedTable}
 use Rattle.search.proofs.Tally.{count-map}
 
 -- ---- two kinds of runs that are the same rows of states and spell the same
 
-module _ (P Q : Model → List ℕ → Type 0) (M N : Model) (same : (r : List ℕ) → spelled M r ≡ spelled N r) (to : (r : List ℕ) → P M r → Q N r) (from : (r : List ℕ) → Q N r → P M r) where
+module _ (P Q : RunKind) (M N : Model) (same : (r : List ℕ) → spelled M r ≡ spelled N r) (to : (r : List ℕ) → P M r → Q N r) (from : (r : List ℕ) → Q N r → P M r) where
   match-to : (f : Rule) (r : List ℕ) → Matches P M f r → Matches Q N f r
   match-to f r h = (to r (h .0), subst (Sat f) (same r) (h .1))
 

@@ -16,7 +16,7 @@ use Rattle.search.specs.declared.inner.Searched.{Searched}
 use Rattle.search.specs.declared.inner.Searched.the-variants.{Found, Nothing}
 use Rattle.search.specs.Lent.{Cleared}
 use Rattle.search.specs.Told.{answerOf, RunKept, SearchedTable}
-use Rattle.search.specs.Right.{Before, here, there, Count, none, counted, passed, Reached, Shown, Answer, found, nothing, Right}
+use Rattle.search.specs.Right.{RunKind, Before, here, there, Count, none, counted, passed, Reached, Shown, Answer, found, nothing, Right}
 
 pub before-not-both : {r u : List ℕ} → Before r u → Before u r → ⊥
 before-not-both (here l) (here m) = omega arith
@@ -31,7 +31,7 @@ count-same f g (counted {n = n} p a) (passed q b) = absurd (q (f n p))
 count-same f g (passed {n = n} p a) (counted q b) = absurd (p (g n q))
 count-same f g (passed p a) (passed q b) = count-same f g a b
 
-pub shown-same : {Runs : Model → List ℕ → Type 0} {M : Model} {f : Rule} {r u : List ℕ} → Shown Runs M f r → Shown Runs M f u → r ≡ u
+pub shown-same : {Runs : RunKind} {M : Model} {f : Rule} {r u : List ℕ} → Shown Runs M f r → Shown Runs M f u → r ≡ u
 shown-same {r = r} {u = u} a b = go (a .first u (b .matches) (sym same)) (b .first r (a .matches) same)
   where
     same : length r ≡ length u
@@ -46,7 +46,7 @@ shown-same {r = r} {u = u} a b = go (a .first u (b .matches) (sym same)) (b .fir
     go (_⊎_.inr p) (_⊎_.inr q) = absurd (before-not-both p q)
 
 -- two right answers are one
-pub one-answer : (Runs : Model → List ℕ → Type 0) (M : Model) (A : Table) (f : Rule) (a b : Answer) → Right Runs M A f a → Right Runs M A f b → a ≡ b
+pub one-answer : (Runs : RunKind) (M : Model) (A : Table) (f : Rule) (a b : Answer) → Right Runs M A f a → Right Runs M A f b → a ≡ b
 one-answer Runs M A f (found r c) (found u d) x y =
     let e : r ≡ u = shown-same (x .0) (y .0) in
     let k : c ≡ d = count-same (λ i w. subst (λ (v : List ℕ). Reached Runs M A (λ k. k ≤ length v) (i / 64) (i % 64)) e w) (λ i w. subst (λ (v : List ℕ). Reached Runs M A (λ k. k ≤ length v) (i / 64) (i % 64)) (sym e) w) (x .1) (y .1) in
@@ -82,7 +82,7 @@ answers-same (Found l c) (Nothing d) run run₁ run₂ e x y = absurd (let z : _
 answers-same (Nothing c) (Found k d) run run₁ run₂ e x y = absurd (let z : _≡_ {A = ℕ} 0 1 = cc in omega arith)
 answers-same (Nothing c) (Nothing d) run run₁ run₂ e x y = (ap Nothing (ap pairs-of e), x ∙ sym y)
 
-module _ (Runs : Model → List ℕ → Type 0) (M : Model) (A : Table) (f : Rule) (serves : Serves A f) (marks marks₁ marks₂ useful useful₁ useful₂ run run₁ run₂ : List ℕ) where
+module _ (Runs : RunKind) (M : Model) (A : Table) (f : Rule) (serves : Serves A f) (marks marks₁ marks₂ useful useful₁ useful₂ run run₁ run₂ : List ℕ) where
   -- the search over a table that serves a rule: one answer, and one content of everything that is lent
   pub one-search : (a b : Searched) → SearchedTable Runs M A a marks marks₁ useful useful₁ run run₁ → SearchedTable Runs M A b marks marks₂ useful useful₂ run run₂
       → (a ≡ b) × (marks₁ ≡ marks₂) × (useful₁ ≡ useful₂) × (run₁ ≡ run₂)

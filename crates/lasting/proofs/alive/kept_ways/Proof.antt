@@ -6,7 +6,7 @@ use mathlib.Core.Path.{_≡_, refl}
 use native.Mathlib.Omega.{arith}
 use Rattle.models.specs.Stored.{column}
 use Rattle.models.proofs.Columns.{column-none, column-turn, column-last}
-use Rattle.lasting.specs.inner.Stored.{keptWays}
+use Rattle.lasting.specs.Stored.{keptWays}
 use Rattle.lasting.proofs.alive.kept_ways.Statement.{statement}
 use Rattle.lasting.proofs.alive.kept_ways.Tie as tie
 
