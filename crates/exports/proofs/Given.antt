@@ -22,7 +22,7 @@ use Rattle.lasting.specs.declared.LastingAnswer.{LastingAnswer}
 use Rattle.lasting.specs.Answer as lasting
 use Rattle.search.specs.declared.SearchAnswer.{SearchAnswer}
 use Rattle.search.specs.declared.SearchAnswer.the-variants.{Answered}
-use Rattle.search.specs.declared.inner.Searched.{Searched}
+use Rattle.passes.specs.declared.inner.Searched.{Searched}
 use Rattle.search.specs.Answer as search
 use Rattle.trims.specs.declared.TrimAnswer.{TrimAnswer}
 use Rattle.trims.specs.Answer as trims

@@ -10,7 +10,7 @@ use Rattle.judge.specs.Verdict as judge
 use Rattle.walkers.specs.declared.Walker.{Walker}
 use Rattle.walkers.specs.Steps as walkers
 use Rattle.lasting.specs.Answer as lasting
-use Rattle.search.specs.Right.{found, nothing}
+use Rattle.passes.specs.Right.{found, nothing}
 use Rattle.search.specs.Answer as search
 use Rattle.trims.specs.Answer as trims
 use Rattle.texts.specs.Answer as texts

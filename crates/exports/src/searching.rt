@@ -6,7 +6,7 @@ ghost use Rattle.search.specs.Answer as search;
 ghost use Rattle.exports.specs.Numbers.{searchedNumbers};
 ghost use Rattle.exports.specs.Promise.{GcSearches, GcSearchesTrimmed};
 use search::SearchAnswer;
-use search::inner::Searched;
+use passes::inner::Searched;
 
 // What a search gives back: `found` is 1 where there is a run, which `length` counts; and the propositions that the rule names.
 #[repr(C)]

@@ -5,14 +5,14 @@ use mathlib.Core.Path.{_≡_, sym, ap, ap₂, subst, _∙_}
 use mathlib.Core.List.{List}
 use lib.ListN.{length, take}
 use Rattle.rules.specs.declared.Known.{Known}
-use Rattle.search.specs.declared.inner.Searched.{Searched}
-use Rattle.search.specs.declared.inner.Searched.the-variants.{Found, Nothing}
+use Rattle.passes.specs.declared.inner.Searched.{Searched}
+use Rattle.passes.specs.declared.inner.Searched.the-variants.{Found, Nothing}
 use Rattle.search.specs.declared.SearchAnswer.{SearchAnswer}
 use Rattle.search.specs.declared.SearchAnswer.the-variants.{Answered, Refused}
 use Rattle.search.specs.declared.Refusal.{Refusal}
 use Rattle.search.specs.Refusals.{number, place}
 use Rattle.search.specs.Answer.{givenLength, told}
-use Rattle.search.specs.Told.{answerOf}
+use Rattle.passes.specs.Told.{answerOf}
 use Rattle.lines.specs.Text.{foundText, noneText, searchedText, usesText, textOf}
 use Rattle.writing.specs.Refused.{refusedText}
 use Rattle.writing.specs.Wrote.{Wrote}

@@ -12,10 +12,10 @@ use Rattle.models.specs.Stored.{modelOf}
 use Rattle.models.specs.Answer as models
 use Rattle.models.proofs.Soundness.{answer-held}
 use Rattle.lasting.specs.Endless.{LastingRun}
-use Rattle.search.specs.declared.inner.Searched.the-variants.{Found, Nothing}
+use Rattle.passes.specs.declared.inner.Searched.the-variants.{Found, Nothing}
 use Rattle.search.specs.declared.SearchAnswer.{SearchAnswer}
 use Rattle.search.specs.declared.SearchAnswer.the-variants.{Answered, Refused}
-use Rattle.search.specs.Right.{Answer, found, Right}
+use Rattle.passes.specs.Right.{Answer, found, Right}
 use Rattle.search.specs.Answer.{Slices, Result, answered, SearchRight, refusal, searched, told}
 use Rattle.writing.specs.Decimal.{named}
 use Rattle.writing.specs.Refused.{refusedText}

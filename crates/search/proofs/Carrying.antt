@@ -12,10 +12,10 @@ use Rattle.lasting.specs.Endless.{LastingRun, LastingSet}
 use Rattle.lasting.specs.Alive.{alive}
 use Rattle.lasting.specs.Stored.{WithoutDeadEnds}
 use Rattle.lasting.proofs.Ways.{lasting-alive, alive-lasting}
-use Rattle.search.specs.declared.inner.Searched.{Searched}
-use Rattle.search.specs.Right.{RunKind, Matches, Shown, Reached, Pairs, Answer, found, nothing, Right, Bounded}
-use Rattle.search.specs.Told.{answerOf, SearchedTable}
-use Rattle.search.proofs.Tally.{count-map}
+use Rattle.passes.specs.declared.inner.Searched.{Searched}
+use Rattle.passes.specs.Right.{RunKind, Matches, Shown, Reached, Pairs, Answer, found, nothing, Right, Bounded}
+use Rattle.passes.specs.Told.{answerOf, SearchedTable}
+use Rattle.passes.proofs.Tally.{count-map}
 
 -- ---- two kinds of runs that are the same rows of states and spell the same
 

@@ -1,4 +1,1 @@
 pub mod Inputs
-pub mod Passes
-pub mod Waves
-pub mod Uses

@@ -10,9 +10,9 @@ use Rattle.models.specs.Model.{Model}
 use Rattle.models.specs.Stored.{modelOf}
 use Rattle.models.specs.Answer as models
 use Rattle.lasting.specs.Endless.{LastingRun}
-use Rattle.search.specs.Right.{Answer, found, nothing, Right}
+use Rattle.passes.specs.Right.{Answer, found, nothing, Right}
 use Rattle.search.specs.Answer.{Slices, Result, answered, refused, lengthOf, refusal, searched, SearchRight}
-use Rattle.search.proofs.TableOnce.{shown-same}
+use Rattle.passes.proofs.TableOnce.{shown-same}
 use Rattle.search.proofs.Once.{refused-once, not-searched}
 use Rattle.trimmed_search.specs.Answer.{TrimmedSearchRight}
 use Rattle.trimmed_search.specs.Alike.{Alike, run, none}

@@ -18,11 +18,11 @@ use Rattle.trims.specs.Answer.{the-trimmed}
 use Rattle.trims.proofs.Built.{built-stands, trimmed-serves}
 use Rattle.models.specs.Stored.{modelOf}
 use Rattle.lasting.specs.Endless.{LastingRun}
-use Rattle.search.specs.declared.inner.Searched.{Searched}
+use Rattle.passes.specs.declared.inner.Searched.{Searched}
 use Rattle.search.specs.declared.input.InputRead.{InputRead}
 use Rattle.search.specs.declared.SearchAnswer.the-variants.{Answered}
-use Rattle.search.specs.Lent.{LentTable}
-use Rattle.search.specs.Told.{SearchedTable}
+use Rattle.passes.specs.Lent.{LentTable}
+use Rattle.passes.specs.Told.{SearchedTable}
 use Rattle.search.specs.Answer.{Slices, slices, told}
 use Rattle.search.specs.Input.{Usable, InputRight}
 use Rattle.search.proofs.Whole.{is-built, lent-table, search-done, call-right}

@@ -6,7 +6,7 @@ use crate::model_bytes::put_full;
 use crate::model_bytes::put_ring;
 use crate::show;
 use search::SearchAnswer;
-use search::inner::Searched;
+use passes::inner::Searched;
 
 // A run of more states is not printed state by state.
 const PRINTED: usize = 16;

@@ -1,0 +1,4 @@
+pub mod Right
+pub mod Lent
+pub mod Told
+pub mod inner
