@@ -1,3 +1,4 @@
+pub mod Fitting
 pub mod Scan
 pub mod Steps
 pub mod PlacesOnce
