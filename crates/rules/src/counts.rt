@@ -1,6 +1,6 @@
 // The two counts of a repetition, which follow its kind byte.
 ghost use mathlib.Core.Path.{_≡_};
-ghost use Prim.Native.Nat.{_+_, _<_};
+ghost use Prim.Native.Nat.{_+_, _-_, _<_, _≤_};
 ghost use Rattle.rules.specs.Encoding.{countsFit};
 ghost use Rattle.rules.specs.Walks.{CountsAs};
 
@@ -30,5 +30,23 @@ pub fn counts_at(rule: &[u8], at: usize) -> Counts
     Counts {
         low: rule[at + 1] as usize,
         high: rule[at + 2] as usize,
+    }
+}
+
+// One less, and no less than none.
+fn fewer(n: usize) -> usize
+    ensures { λ r. ⌜ r ≡ n - 1 ⌝ }
+{
+    if n == 0 { 0 } else { n - 1 }
+}
+
+// What is left to count after one.
+pub fn after_one(c: Counts) -> Counts
+    requires { ⌜ 1 ≤ c .high ⌝ }
+    ensures { λ r. ⌜ (r .low ≡ c .low - 1) × (r .high ≡ c .high - 1) ⌝ }
+{
+    Counts {
+        low: fewer(c.low),
+        high: c.high - 1,
     }
 }

@@ -8,9 +8,9 @@ use crate::cells::get;
 use crate::cells::put;
 use crate::link::then;
 use crate::shape::Shape;
-use crate::shape::after_one;
 use crate::shape::row_shape;
 use rules::counts::Counts;
+use rules::counts::after_one;
 
 // Row i of the block of n states at from becomes row i of the block behind it.
 fn double_row(t: &mut [u64], from: usize, n: usize, i: usize)

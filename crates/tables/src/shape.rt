@@ -1,6 +1,5 @@
 // The shape of a rule: all that its operator needs to know of it besides its labels.
-ghost use mathlib.Core.Path.{_≡_};
-ghost use Prim.Native.Nat.{ℕ, _-_, _<_, _≤_};
+ghost use Prim.Native.Nat.{ℕ, _<_, _≤_};
 ghost use Rattle.rules.specs.Definition1.{Rule, Formula, two, again, counted, occurs};
 ghost use Rattle.rules.specs.Encoding.{CountsFit};
 ghost use Rattle.rules.specs.Weight.{pairWeight, weightLimit};
@@ -12,6 +11,7 @@ use crate::finals::raise;
 use crate::finals::then_finals;
 use crate::finals::within_finals;
 use rules::counts::Counts;
+use rules::counts::after_one;
 use rules::counts::counts_at;
 use rules::ends::formula_past;
 use rules::ends::rule_past;
@@ -95,24 +95,6 @@ fn maybe(low: usize, a: Shape) -> Shape
         };
     }
     a
-}
-
-// One less, and no less than none.
-fn fewer(n: usize) -> usize
-    ensures { λ r. ⌜ r ≡ n - 1 ⌝ }
-{
-    if n == 0 { 0 } else { n - 1 }
-}
-
-// What is counted after one part.
-pub fn after_one(c: Counts) -> Counts
-    requires { ⌜ 1 ≤ c .high ⌝ }
-    ensures { λ r. ⌜ (r .low ≡ c .low - 1) × (r .high ≡ c .high - 1) ⌝ }
-{
-    Counts {
-        low: fewer(c.low),
-        high: c.high - 1,
-    }
 }
 
 // The shape of as many parts in a row as are counted, each of the shape a: one, and then those after it.

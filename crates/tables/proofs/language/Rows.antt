@@ -5,9 +5,10 @@ use native.Mathlib.Nat.{suc-mul}
 use mathlib.Core.Path.{_≡_, refl, sym}
 use mathlib.Core.Logic.{_⊎_, inl, inr, _↔_}
 use mathlib.Core.List.{List, [], _∷_, append-nil, cons≢nil}
-use Rattle.rules.specs.Definition2.{Parts, InARow, CountedParts}
+use Rattle.rules.specs.Definition2.{CountedParts}
 use Rattle.rules.specs.Weight.{rowWeight}
 use Rattle.rules.proofs.Maps.{map-parts}
+use Rattle.rules.proofs.PartsInARow.{OnePartMore, none-counted, part-counted, counted-parts, none-at-all}
 use Rattle.tables.specs.Auto.{Auto}
 use Rattle.tables.specs.Build.{thenA, maybeA, noneA, lastA, rowA}
 use Rattle.tables.proofs.language.Lang.{Acc, Good}
@@ -42,36 +43,6 @@ module _ (i : ℕ) (C : Auto) (gC : Good C) where
   maybe-in : (w : List ℕ) → ((w ≡ []) × (i ≡ 0)) ⊎ Acc C 0 w → Acc (maybeA i C) 0 w
   maybe-in w (inl e) = rw (e .0) (inr (refl, e .1))
   maybe-in w (inr a) = with-it 0 w a
-
--- ---- parts in a row, whatever they are
-
--- one part, and then those that are left
-abbrev OnePartMore : (List ℕ → Type 0) → ℕ → ℕ → List ℕ → Type 0
-OnePartMore P i j = Parts P (CountedParts (i - 1) j P)
-
-module _ (P : List ℕ → Type 0) (i j : ℕ) (w : List ℕ) where
-  none-counted : w ≡ [] → i ≡ 0 → CountedParts i j P w
-  none-counted e z = record { k = 0; low = omega arith; high = omega arith; parts = e }
-
-  part-counted : OnePartMore P i j w → CountedParts i (suc j) P w
-  part-counted h =
-      let l = h .second .low in
-      let u = h .second .high in
-      record { k = suc (h .second .k); low = omega arith; high = omega arith; parts = record { w1 = h .w1; w2 = h .w2; whole = h .whole; first = h .first; second = h .second .parts } }
-
-  counted-parts : CountedParts i (suc j) P w → ((w ≡ []) × (i ≡ 0)) ⊎ OnePartMore P i j w
-  counted-parts h = go (h .k) (h .low) (h .high) (h .parts)
-    where
-      go : (k : ℕ) → i ≤ k → k ≤ suc j → InARow P k w → ((w ≡ []) × (i ≡ 0)) ⊎ OnePartMore P i j w
-      go zero l u t = inl (t, omega arith)
-      go (suc k) l u t = inr (record { w1 = t .w1; w2 = t .w2; whole = t .whole; first = t .first; second = record { k = k; low = omega arith; high = omega arith; parts = t .second } })
-
-  none-at-all : CountedParts i 0 P w → (w ≡ []) × (i ≡ 0)
-  none-at-all h = go (h .k) (h .low) (h .high) (h .parts)
-    where
-      go : (k : ℕ) → i ≤ k → k ≤ 0 → InARow P k w → (w ≡ []) × (i ≡ 0)
-      go zero l u t = (t, omega arith)
-      go (suc k) l u t = absurd (omega arith)
 
 module _ (A : Auto) (gA : Good A) where
   good-none : (i : ℕ) → Good (noneA i)

@@ -17,6 +17,7 @@ use Rattle.rules.specs.Walks.{CountsAs, LabelledAs}
 use Rattle.rules.specs.Weight.{weightOf, pairWeight, weightLimit}
 use Rattle.rules.proofs.Scan.{rule-ends}
 use Rattle.rules.proofs.PlacesOnce.{rule-of, rule-once}
+use Rattle.rules.proofs.Walks.{told-counts}
 use Rattle.rules.proofs.Weighing.{weight-pos}
 use Rattle.tables.specs.declared.shape.Shape.{Shape}
 use Rattle.tables.specs.declared.fill.Place.{Place}
@@ -26,7 +27,7 @@ use Rattle.tables.specs.inner.Cells.{Put, Clean}
 use Rattle.tables.specs.inner.Block.{Built, Beside}
 use Rattle.tables.specs.inner.Shapes.{Fits, ShapeOf, ShapedAs}
 use Rattle.tables.specs.inner.Building.{Ready, BuiltAt, Room, Joins, Repeats, RowOf, TallyOf, Placed, PlacedAt, nowhere, from, operandsFrom}
-use Rattle.tables.proofs.walk.Shaping.{pair-weights, told-counts}
+use Rattle.tables.proofs.walk.Shaping.{pair-weights}
 use Rattle.tables.proofs.blocks.Places.{beside, built-at, clean-on}
 use Rattle.tables.proofs.blocks.Singles.{empty-built, letter-built}
 use Rattle.tables.proofs.blocks.Rowing.{none-built}

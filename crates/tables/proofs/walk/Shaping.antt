@@ -14,10 +14,11 @@ use Rattle.rules.specs.Definition1.{Rule, Formula, two, again, counted, occurs}
 use Rattle.rules.specs.Kinds.{kindOf}
 use Rattle.rules.specs.declared.counts.Counts.{Counts}
 use Rattle.rules.specs.Encoding.{CountsFit}
-use Rattle.rules.specs.Places.{GoodRule, HasCounts, FormulaEnds, RuleEnds}
+use Rattle.rules.specs.Places.{GoodRule, FormulaEnds, RuleEnds}
 use Rattle.rules.specs.Walks.{CountsAs}
 use Rattle.rules.specs.Weight.{weightOf, rowWeight, pairWeight, weightLimit}
 use Rattle.rules.proofs.Scan.{rule-ends}
+use Rattle.rules.proofs.Walks.{counts-told, told-counts}
 use Rattle.rules.proofs.PlacesOnce.{rule-of}
 use Rattle.tables.specs.declared.shape.Shape.{Shape}
 use Rattle.tables.specs.inner.Shapes.{Fits, ShapeOf, ShapedAs}
@@ -38,14 +39,6 @@ parts Both m n h k = (le-mul-of-pos-right m k, subst (λ (x : ℕ). n ≤ x) (mu
 row-part : (j m : ℕ) → (j ≡ 0 → ⊥) → (rowWeight j m ≡ j * m) × (m ≤ j * m)
 row-part zero m n = absurd (n refl)
 row-part (suc j) m n = (refl, omega (arith, suc-mul j m))
-
-module _ (s : List ℕ) (at : ℕ) (c : Counts) (h : CountsAs s at c) where
-  -- the counts that were read are those of the rule
-  pub counts-told : HasCounts s at (getD s (at + 1) 0) (getD s (at + 2) 0) → CountsFit (c .low) (c .high)
-  counts-told k = let f = k .fit in let l = h .low in let u = h .high in record { rising = let r = f .rising in omega arith; small = let r = f .small in omega arith }
-
-  pub told-counts : {A B : Type 0} (made : ℕ → ℕ → A → B) (a : A) (r : B) → r ≡ made (getD s (at + 1) 0) (getD s (at + 2) 0) a → r ≡ made (c .low) (c .high) a
-  told-counts made a r e = let l = h .low in let u = h .high in cc
 
 module _ (s : List ℕ) (at base : ℕ) (g : Fits s at base) where
   pub stands-good : GoodRule s at

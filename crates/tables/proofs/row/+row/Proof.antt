@@ -10,7 +10,7 @@ use Rattle.tables.proofs.row.row.Kinds as row-kinds
 use Rattle.tables.proofs.row.+row.Lts-row as row-lts
 use Rattle.tables.proofs.link.then.Reads as then-reads
 use Rattle.tables.proofs.row.double.Reads as double-reads
-use Rattle.tables.proofs.shape.after_one.Reads as after-one-reads
+use Rattle.rules.proofs.counts.after_one.Reads as after-one-reads
 use Rattle.tables.proofs.shape.row_shape.Reads as row-shape-reads
 use Rattle.tables.proofs.row.+row.{statement}
 use Rattle.tables.proofs.row.+row.Tie.{close}

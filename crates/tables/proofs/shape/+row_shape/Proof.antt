@@ -8,7 +8,7 @@ use borrow.Fn.PlainCycle.{Measures, is, falls, and}
 use Rattle.tables.proofs.shape.row_shape.Reads as row-shape
 use Rattle.tables.proofs.shape.row_shape.Kinds as row-shape-kinds
 use Rattle.tables.proofs.shape.+row_shape.Lts-row_shape as row-shape-lts
-use Rattle.tables.proofs.shape.after_one.Reads as after-one-reads
+use Rattle.rules.proofs.counts.after_one.Reads as after-one-reads
 use Rattle.tables.proofs.shape.maybe.Reads as maybe-reads
 use Rattle.tables.proofs.shape.pair_shape.Reads as pair-shape-reads
 use Rattle.tables.proofs.shape.+row_shape.{statement}
