@@ -11,16 +11,19 @@ use Rattle.bits.specs.Says.{Says}
 use Rattle.rules.specs.declared.kinds.Pair.{Pair}
 use Rattle.rules.specs.declared.kinds.Pair.the-variants.{Then, Overlap, Either, Within, Both}
 use Rattle.rules.specs.declared.kinds.Repeat.the-variants.{Star, Plus}
-use Rattle.rules.specs.Definition1.{Formula, Rule, letter, empty, two, again}
-use Rattle.rules.specs.Definition2.{holds, OneLetter, Parts, Overlaps, Begins, Repeats, none, more, Sat}
+use Rattle.rules.specs.Definition1.{Formula, Rule, letter, empty, two, again, counted}
+use Rattle.rules.specs.Definition2.{holds, OneLetter, Parts, Overlaps, Begins, Repeats, none, more, CountedParts, Sat}
 use Rattle.judge.specs.Parts.{Few, part, yes, Judged, Filled}
 use Rattle.judge.specs.inner.Cut.{LetterAt, ThenAt, OverlapAt, BeginsAt, WithinAt, PairAt, StepAt, StarAt, PlusOf}
+use Rattle.judge.specs.inner.Judging.{InRow}
+use Rattle.rules.specs.declared.counts.Counts.{Counts}
+use Rattle.rules.proofs.PartsInARow.{OnePartMore, none-counted, part-counted, counted-parts, none-at-all}
 use Rattle.bits.proofs.Truths.{T-true}
 use Rattle.bits.proofs.Sayings.{says-map, says-in}
 
 module _ (w : List ℕ) (i e : ℕ) (ie : i ≤ e) (ew : e ≤ length w) where
   -- a part is what stands before a cut and what stands after it
-  part-split : (m : ℕ) → i ≤ m → m ≤ e → part i e w ≡ part i m w ++ part m e w
+  pub part-split : (m : ℕ) → i ≤ m → m ≤ e → part i e w ≡ part i m w ++ part m e w
   part-split m lo hi =
       let x : List ℕ = take e w in
       let lx : length x ≡ e = length-take-le e w ew in
@@ -52,7 +55,7 @@ module _ (w : List ℕ) (i e : ℕ) (ie : i ≤ e) (ew : e ≤ length w) where
         sym (take-append-seam u v) ∙ ap (take (length u)) (sym p ∙ part-split m lo cut-end) ∙ take-at (part i m w) (part m e w) (length u) lp
 
 -- the part of one letter
-part-one : (w : List ℕ) (m : ℕ) → m < length w → part m (m + 1) w ≡ getD w m 0 ∷ []
+pub part-one : (w : List ℕ) (m : ℕ) → m < length w → part m (m + 1) w ≡ getD w m 0 ∷ []
 part-one w m l =
     let stop : suc m ≡ m + 1 = omega arith in
     slice-cons m (m + 1) w 0 (omega arith) (omega arith) ∙ ap (λ (l : List ℕ). getD w m 0 ∷ l) (subst (λ (j : ℕ). part j (m + 1) w ≡ []) (sym stop) (slice-empty (m + 1) w))
@@ -154,7 +157,7 @@ star-view (more x y p ne a b) = inr (x, y, p, ne, a, b)
 
 module _ (w : List ℕ) (short : Few w) where
   -- what is found for any two places is found for the parts of w
-  by-cell : {F : ℕ → ℕ → Type 0} {R : List ℕ → Type 0} {r : List ℕ}
+  pub by-cell : {F : ℕ → ℕ → Type 0} {R : List ℕ → Type 0} {r : List ℕ}
       → ((i e : ℕ) → i ≤ e → e ≤ length w → F i e → R (part i e w)) → ((i e : ℕ) → i ≤ e → e ≤ length w → R (part i e w) → F i e) → Filled F r → Judged R w r
   by-cell f g h = record { says = λ i e ie ew. says-map (f i e ie ew) (g i e ie ew) (h .says i e (omega arith) (omega arith)) }
 
@@ -251,6 +254,68 @@ module _ (w : List ℕ) (short : Few w) where
   judged-plus x {a} ha h =
       let hb : Judged (Repeats (Sat x)) w (h .rest) = judged-repeats ha (h .stars) in
       by-cell (then-parts (Sat x) (Repeats (Sat x)) w a (h .rest) ha hb) (parts-then (Sat x) (Repeats (Sat x)) w a (h .rest) ha hb) (h .cuts)
+
+-- ---- counted parts in a row, one part at a time
+
+judged-as : {P Q : List ℕ → Type 0} {w a : List ℕ} → ((v : List ℕ) → P v → Q v) → ((v : List ℕ) → Q v → P v) → Judged P w a → Judged Q w a
+judged-as {w = w} f g h = record { says = λ i e ie ew. says-map (f (part i e w)) (g (part i e w)) (h .says i e ie ew) }
+
+-- no part is allowed, so that it does not matter what a part is
+pub judged-none : (w : List ℕ) → Few w → (x : Rule) (c : Counts) {r : List ℕ} → c .low ≡ 0 → c .high ≡ 0 → Filled _≡_ r → Judged (Sat (counted (c .low) (c .high) x)) w r
+unfolding Sat
+judged-none w few x c l z h =
+    judged-as
+    (λ v e. none-counted (Sat x) (c .low) (c .high) v e l)
+    (λ v k. none-at-all (Sat x) (c .low) 0 v (subst (λ (j : ℕ). CountedParts (c .low) j (Sat x) v) z k) .0)
+    (judged-empty w few h)
+
+pub row-none : (c : Counts) {a r : List ℕ} → c .low ≡ 0 → c .high ≡ 0 → Filled _≡_ r → InRow a c r
+row-none c l z h = record { rowed = λ x w few ha. judged-none w few x c l z h }
+
+-- one part, and those that are left after it
+module _ (c d : Counts) {a rest some : List ℕ} (l : 1 ≤ c .high) (el : d .low ≡ c .low - 1) (eh : d .high ≡ c .high - 1) (hr : InRow a d rest) (hs : Filled (PairAt Then a rest) some) where
+  one-more : (x : Rule) (w : List ℕ) → Few w → Judged (Sat x) w a → Judged (OnePartMore (Sat x) (c .low) (c .high - 1)) w some
+  unfolding Sat
+  one-more x w few ha = rw (← el, ← eh) (judged-two w few Then x (counted (d .low) (d .high) x) ha (hr .rowed x w few ha) hs)
+
+  high-is : c .high ≡ suc (c .high - 1)
+  high-is = omega arith
+
+  pub row-some : (c .low ≡ 0 → ⊥) → InRow a c some
+  unfolding Sat
+  row-some n = record {
+    rowed = λ x w few ha.
+        rw high-is (judged-as
+        (λ v. part-counted (Sat x) (c .low) (c .high - 1) v)
+        (λ v k. only (counted-parts (Sat x) (c .low) (c .high - 1) v k))
+        (one-more x w few ha));
+  }
+    where
+      only : {A B : Type 0} → (A × (c .low ≡ 0)) ⊎ B → B
+      only (inl h) = absurd (n (h .1))
+      only (inr h) = h
+
+  pub row-any : (z : c .low ≡ 0) {none r : List ℕ} → Filled _≡_ none → Filled (PairAt Either some none) r → InRow a c r
+  unfolding Sat
+  row-any z {none} {r} hn h = record {
+    rowed = λ x w few ha.
+        rw high-is (judged-as
+        (λ v. out x v)
+        (λ v k. back x v (counted-parts (Sat x) (c .low) (c .high - 1) v k))
+        (by-cell w few
+        {F = PairAt Either some none} {R = λ v. OnePartMore (Sat x) (c .low) (c .high - 1) v ⊎ (v ≡ [])}
+        (λ i e ie ew t. ⊎-elim (λ q. inl (one-more x w few ha .says i e ie ew .yes-holds q)) (λ q. inr (judged-empty w few hn .says i e ie ew .yes-holds q)) t)
+        (λ i e ie ew s. ⊎-elim (λ q. inl (says-in (one-more x w few ha .says i e ie ew) q)) (λ q. inr (says-in (judged-empty w few hn .says i e ie ew) q)) s)
+        h));
+  }
+    where
+      out : (x : Rule) (v : List ℕ) → OnePartMore (Sat x) (c .low) (c .high - 1) v ⊎ (v ≡ []) → CountedParts (c .low) (suc (c .high - 1)) (Sat x) v
+      out x v (inl p) = part-counted (Sat x) (c .low) (c .high - 1) v p
+      out x v (inr e) = none-counted (Sat x) (c .low) (suc (c .high - 1)) v e z
+
+      back : (x : Rule) (v : List ℕ) → ((v ≡ []) × (c .low ≡ 0)) ⊎ OnePartMore (Sat x) (c .low) (c .high - 1) v → OnePartMore (Sat x) (c .low) (c .high - 1) v ⊎ (v ≡ [])
+      back x v (inl e) = inr (e .0)
+      back x v (inr p) = inl p
 
 -- the whole sequence is the part from 0 to its length
 pub judged-whole : {P : List ℕ → Type 0} {w a : List ℕ} → Judged P w a → Says (yes a 0 (length w)) (P w)

@@ -1,9 +1,10 @@
 // Definition 2 at one part of the letters, over the answers of the operands: a function for each operator.
 ghost use mathlib.Core.Path.{_≡_};
-ghost use Prim.Native.Nat.{_<_};
+ghost use Prim.Native.Nat.{_+_, _<_, _≤_};
 ghost use Rattle.bits.specs.Says.{Says};
 ghost use Rattle.judge.specs.Parts.{side, yes};
-ghost use Rattle.judge.specs.inner.Cut.{ThenAt, OverlapAt, BeginsAt, WithinAt, PairAt, StarAt, CellAt};
+ghost use Rattle.judge.specs.inner.Cut.{ThenAt, OverlapAt, BeginsAt, WithinAt, PairAt, StarAt, lettersAt, CountedOn, OccursAt, CellAt};
+use rules::counts::Counts;
 use rules::kinds::Pair;
 
 // The most letters that the judge takes.
@@ -19,6 +20,7 @@ pub type Answers = [u64; SIDE];
 pub enum Operator {
     Two(Pair),
     Star,
+    Occurs(Counts),
 }
 
 // Whether the part from i to e is accepted.
@@ -114,6 +116,40 @@ fn star_at(a: &Answers, rest: &Answers, i: usize, e: usize) -> bool
     false
 }
 
+// One more than n, if the letter at k is accepted.
+fn count_letter(a: &Answers, k: usize, n: usize) -> usize
+    requires { ⌜ (k + 1 < side) × (n ≤ k) ⌝ }
+    ensures { λ r. ⌜ CountedOn (now (a .entry)) k n r ⌝ }
+{
+    if accepted(a, k, k + 1) {
+        return n + 1;
+    }
+    n
+}
+
+// How many letters from i to e are accepted.
+fn letters_at(a: &Answers, i: usize, e: usize) -> usize
+    requires { ⌜ (i < side) × (e < side) ⌝ }
+    ensures { λ r. ⌜ r ≡ lettersAt (now (a .entry)) i e ⌝ }
+{
+    let mut n = 0;
+    let mut k = i;
+    while k < e {
+        n = count_letter(a, k, n);
+        k += 1;
+    }
+    n
+}
+
+// `[=i..j]`: as many letters as are asked for, wherever they stand.
+fn occurs_at(c: Counts, a: &Answers, i: usize, e: usize) -> bool
+    requires { ⌜ (i < side) × (e < side) ⌝ }
+    ensures { λ r. ⌜ Says r (OccursAt c (now (a .entry)) i e) ⌝ }
+{
+    let n = letters_at(a, i, e);
+    c.low <= n && n <= c.high
+}
+
 // One cell of the answers.
 pub fn cell(op: Operator, a: &Answers, b: &Answers, i: usize, e: usize) -> bool
     requires { ⌜ (i < side) × (e < side) ⌝ }
@@ -122,5 +158,6 @@ pub fn cell(op: Operator, a: &Answers, b: &Answers, i: usize, e: usize) -> bool
     match op {
         Operator::Two(p) => pair_at(p, a, b, i, e),
         Operator::Star => star_at(a, b, i, e),
+        Operator::Occurs(c) => occurs_at(c, a, i, e),
     }
 }

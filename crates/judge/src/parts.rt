@@ -1,14 +1,16 @@
 // The answers of a rule for all parts of the letters at once, from its operands' answers.
 ghost use mathlib.Core.Path.{_≡_};
-ghost use Prim.Native.Nat.{_<_};
+ghost use Prim.Native.Nat.{_<_, _≤_};
 ghost use Rattle.rules.specs.Places.{GoodFormula};
 ghost use Rattle.judge.specs.Parts.{side, RowOf, Filled};
-ghost use Rattle.judge.specs.inner.Cut.{CellAt, PairAt, StarAt, PlusOf};
-ghost use Rattle.judge.specs.inner.Judging.{LetterRow, LetterParts};
+ghost use Rattle.judge.specs.inner.Cut.{CellAt, PairAt, StarAt, PlusOf, OccursAt};
+ghost use Rattle.judge.specs.inner.Judging.{LetterRow, LetterParts, InRow};
 use crate::cuts::Answers;
 use crate::cuts::Operator;
 use crate::cuts::SIDE;
 use crate::cuts::cell;
+use rules::counts::Counts;
+use rules::counts::after_one;
 use rules::formulas::holds_at;
 use rules::kinds::Pair;
 
@@ -28,17 +30,31 @@ fn row(op: Operator, a: &Answers, b: &Answers, i: usize) -> u64
     found
 }
 
-// An operator of two, everywhere.
-pub fn pair_parts(p: Pair, a: &Answers, b: &Answers) -> Answers
-    ensures { λ r. ⌜ Filled (PairAt p (now (a .entry)) (now (b .entry))) r ⌝ }
+// An operator that reads no answers of its own, everywhere.
+fn parts(op: Operator, a: &Answers, b: &Answers) -> Answers
+    ensures { λ r. ⌜ Filled (CellAt op (now (a .entry)) (now (b .entry))) r ⌝ }
 {
     let mut out = [0u64; SIDE];
     let mut i = 0;
     while i < SIDE {
-        out[i] = row(Operator::Two(p), a, b, i);
+        out[i] = row(op, a, b, i);
         i += 1;
     }
     out
+}
+
+// An operator of two, everywhere.
+pub fn pair_parts(p: Pair, a: &Answers, b: &Answers) -> Answers
+    ensures { λ r. ⌜ Filled (PairAt p (now (a .entry)) (now (b .entry))) r ⌝ }
+{
+    parts(Operator::Two(p), a, b)
+}
+
+// `[=i..j]`, everywhere, from the answers for one letter.
+pub fn occurs_parts(c: Counts, a: &Answers) -> Answers
+    ensures { λ r. ⌜ Filled (OccursAt c (now (a .entry))) r ⌝ }
+{
+    parts(Operator::Occurs(c), a, a)
 }
 
 // `[*]`, everywhere: the last place first, since a rest begins later.
@@ -61,6 +77,23 @@ pub fn plus_parts(a: &Answers) -> Answers
 {
     let rest = star_parts(a);
     pair_parts(Pair::Then, a, &rest)
+}
+
+// `[*i..j]`, everywhere: one part and then those after it, or nothing where no part is needed.
+pub fn row_parts(c: Counts, a: &Answers) -> Answers
+    requires { ⌜ c .low ≤ c .high ⌝ }
+    ensures { λ r. ⌜ InRow (now (a .entry)) c r ⌝ }
+{
+    let none = empty_parts();
+    if c.high == 0 {
+        return none;
+    }
+    let rest = row_parts(after_one(c), a);
+    let some = pair_parts(Pair::Then, a, &rest);
+    if c.low == 0 {
+        return pair_parts(Pair::Either, &some, &none);
+    }
+    some
 }
 
 // The empty sequence: a part that ends where it begins.

@@ -8,9 +8,12 @@ use crate::cuts::SIDE;
 use crate::cuts::accepted;
 use crate::parts::empty_parts;
 use crate::parts::letter_parts;
+use crate::parts::occurs_parts;
 use crate::parts::pair_parts;
 use crate::parts::plus_parts;
+use crate::parts::row_parts;
 use crate::parts::star_parts;
+use rules::counts::counts_at;
 use rules::ends::rule_past;
 use rules::kinds::Kind;
 use rules::kinds::Repeat;
@@ -34,6 +37,19 @@ fn judge_at(rule: &[u8], at: usize, letters: &[u8]) -> Answers
             let second = rule_past(rule, at + 1);
             let b = judge_at(rule, second, letters);
             pair_parts(p, &a, &b)
+        }
+        RuleKind::Counted => {
+            let c = counts_at(rule, at);
+            if c.high == 0 {
+                return empty_parts();
+            }
+            let once = judge_at(rule, at + 3, letters);
+            row_parts(c, &once)
+        }
+        RuleKind::Occurs => {
+            let c = counts_at(rule, at);
+            let one = letter_parts(rule, at + 3, letters);
+            occurs_parts(c, &one)
         }
     }
 }

@@ -1,18 +1,19 @@
 -- Definition 2 as a program that decides it, so that examples can be computed. Assumes nothing.
-use Prim.Native.Nat.{ℕ, zero, suc, _≤_}
+use Prim.Native.Nat.{ℕ, zero, suc, _≤_, _<_}
 use native.Mathlib.Omega.{arith}
 use mathlib.Core.Path.{_≡_, refl, ap}
 use mathlib.Core.Logic.{_⊎_, inl, inr, ⊎-map, _≢_}
 use mathlib.Core.Bool.{Bool, true, false, _&&_, _||_}
 use mathlib.Core.List.{List, [], _∷_, _++_, cons≢nil}
 use lib.ListN.{length, length-append}
-use lib.Dec.{T}
-use Rattle.bits.proofs.Truths.{and-T, or-T}
+use lib.Dec.{T, leb, leb→le, le→leb}
+use Rattle.bits.specs.Word.{any}
+use Rattle.bits.proofs.Truths.{and-T, or-T, any-T}
 use Rattle.rules.specs.declared.kinds.Pair.the-variants.{Then, Overlap, Either, Within, Both}
 use Rattle.rules.specs.declared.kinds.Repeat.the-variants.{Star, Plus}
-use Rattle.rules.specs.Definition1.{Rule, letter, empty, two, again}
-use Rattle.rules.specs.Definition2.{holds, Sat, OneLetter, Parts, Overlaps, Begins, Repeats, none, more}
-use Rattle.rules.proofs.Maps.{map-parts, map-overlaps, map-repeats, map-begins}
+use Rattle.rules.specs.Definition1.{Rule, letter, empty, two, again, counted, occurs}
+use Rattle.rules.specs.Definition2.{holds, Sat, OneLetter, Parts, Overlaps, Begins, Repeats, none, more, InARow, CountedParts, satisfying}
+use Rattle.rules.proofs.Maps.{map-parts, map-overlaps, map-repeats, map-begins, map-counted}
 
 -- Q is asked of every rest, P of every beginning
 abbrev pub partsB : (List ℕ → Bool) → (List ℕ → Bool) → List ℕ → Bool
@@ -39,6 +40,13 @@ abbrev pub emptyB : List ℕ → Bool
 emptyB [] = true
 emptyB (x ∷ w) = false
 
+abbrev pub rowB : (List ℕ → Bool) → ℕ → List ℕ → Bool
+rowB P zero w = emptyB w
+rowB P (suc k) w = partsB P (rowB P k) w
+
+abbrev pub countedB : ℕ → ℕ → (List ℕ → Bool) → List ℕ → Bool
+countedB i j P w = any (suc j) (λ k. leb i k && rowB P k w)
+
 abbrev pub verdict : Rule → List ℕ → Bool
 verdict empty w = emptyB w
 verdict (letter f) w = oneB (holds f) w
@@ -49,6 +57,8 @@ verdict (two Within a b) w = (verdict a w && partsB (verdict b) (λ u. true) w) 
 verdict (two Both a b) w = verdict a w && verdict b w
 verdict (again Star a) w = repeatsB (verdict a) (length w) w
 verdict (again Plus a) w = partsB (verdict a) (λ u. repeatsB (verdict a) (length u) u) w
+verdict (counted i j a) w = countedB i j (verdict a) w
+verdict (occurs i j f) w = leb i (satisfying (holds f) w) && leb (satisfying (holds f) w) j
 
 abbrev Ts : (List ℕ → Bool) → List ℕ → Type 0
 Ts P w = T (P w)
@@ -109,6 +119,34 @@ begins-out P w t = let h = parts-out P (λ u. true) w t in record { w1 = h .w1; 
 begins-in : (P : List ℕ → Bool) (w : List ℕ) → Begins (Ts P) w → T (partsB P (λ u. true) w)
 begins-in P w h = rw (h .whole) (parts-in P (λ u. true) (h .w1) (h .w2) (h .first) tt)
 
+row-out : (P : List ℕ → Bool) (k : ℕ) (w : List ℕ) → T (rowB P k w) → InARow (Ts P) k w
+row-out P zero w t = empty-out w t
+row-out P (suc k) w t = map-parts (Ts P) (Ts P) (Ts (rowB P k)) (InARow (Ts P) k) (λ u t. t) (row-out P k) w (parts-out P (rowB P k) w t)
+
+row-in : (P : List ℕ → Bool) (k : ℕ) (w : List ℕ) → InARow (Ts P) k w → T (rowB P k w)
+row-in P zero w h = rw h tt
+row-in P (suc k) w h = rw (h .whole) (parts-in P (rowB P k) (h .w1) (h .w2) (h .first) (row-in P k (h .w2) (h .second)))
+
+module _ (i j : ℕ) where
+  counted-out : (P : List ℕ → Bool) (w : List ℕ) → T (countedB i j P w) → CountedParts i j (Ts P) w
+  counted-out P w t =
+      let h = any-T (suc j) (λ k. leb i k && rowB P k w) .0 t in
+      let b = and-T (leb i (h .0)) (rowB P (h .0) w) .0 (h .2) in
+      let l = h .1 in
+      record { k = h .0; low = leb→le i (h .0) (b .0); high = omega arith; parts = row-out P (h .0) w (b .1) }
+
+  counted-in : (P : List ℕ → Bool) (w : List ℕ) → CountedParts i j (Ts P) w → T (countedB i j P w)
+  counted-in P w h =
+      let l = h .high in
+      let k : h .k < suc j = omega arith in
+      any-T (suc j) (λ k. leb i k && rowB P k w) .1 (h .k, k, and-T (leb i (h .k)) (rowB P (h .k) w) .1 (le→leb i (h .k) (h .low), row-in P (h .k) w (h .parts)))
+
+  letters-out : (n : ℕ) → T (leb i n && leb n j) → (i ≤ n) × (n ≤ j)
+  letters-out n t = let b = and-T (leb i n) (leb n j) .0 t in (leb→le i n (b .0), leb→le n j (b .1))
+
+  letters-in : (n : ℕ) → i ≤ n → n ≤ j → T (leb i n && leb n j)
+  letters-in n l h = and-T (leb i n) (leb n j) .1 (le→leb i n l, le→leb n j h)
+
 -- verdict decides Sat
 pub verdict-sat : (r : Rule) (w : List ℕ) → T (verdict r w) → Sat r w
 unfolding Sat
@@ -126,6 +164,8 @@ verdict-sat (again Star a) w t = map-repeats (Ts (verdict a)) (Sat a) (verdict-s
 verdict-sat (again Plus a) w t =
     map-parts (Ts (verdict a)) (Sat a) (λ u. T (repeatsB (verdict a) (length u) u)) (Repeats (Sat a)) (verdict-sat a) (λ u s. map-repeats (Ts (verdict a)) (Sat a) (verdict-sat a) u (repeats-out (verdict a) (length u) u s)) w
     (parts-out (verdict a) (λ u. repeatsB (verdict a) (length u) u) w t)
+verdict-sat (counted i j a) w t = map-counted (Ts (verdict a)) (Sat a) (verdict-sat a) i j w (counted-out i j (verdict a) w t)
+verdict-sat (occurs i j f) w t = let h = letters-out i j (satisfying (holds f) w) t in record { low = h .0; high = h .1 }
 
 pub sat-verdict : (r : Rule) (w : List ℕ) → Sat r w → T (verdict r w)
 unfolding Sat
@@ -141,3 +181,5 @@ sat-verdict (two Both a b) w h = and-T (verdict a w) (verdict b w) .1 (sat-verdi
 sat-verdict (again Star a) w h = repeats-in (verdict a) (length w) w (omega arith) (map-repeats (Sat a) (Ts (verdict a)) (sat-verdict a) w h)
 sat-verdict (again Plus a) w h = rw (h .whole) (parts-in (verdict a) (λ u. repeatsB (verdict a) (length u) u) (h .w1) (h .w2) (sat-verdict a (h .w1) (h .first))
     (repeats-in (verdict a) (length (h .w2)) (h .w2) (omega arith) (map-repeats (Sat a) (Ts (verdict a)) (sat-verdict a) (h .w2) (h .second))))
+sat-verdict (counted i j a) w h = counted-in i j (verdict a) w (map-counted (Sat a) (Ts (verdict a)) (sat-verdict a) i j w h)
+sat-verdict (occurs i j f) w h = letters-in i j (satisfying (holds f) w) (h .low) (h .high)

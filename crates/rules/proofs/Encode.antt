@@ -1,14 +1,12 @@
 -- The bytes that are read as a rule are that rule's spelling, and the spelling of a rule is read as it. Assumes nothing.
 use Prim.Native.Nat.{ℕ, _+_, _≤_}
 use native.Mathlib.Omega.{arith}
-use native.Mathlib.Numerals.{add-one}
 use mathlib.Core.Path.{_≡_, refl, sym, ap, ap₂, subst, _∙_}
 use mathlib.Core.Logic.{_⊎_, inl, inr, ⊎-elim}
 use mathlib.Core.Bool.{Bool, true, false, cond}
 use mathlib.Core.List.{List, [], _∷_, _++_, append-assoc, append-nil}
 use lib.Dec.{eqb, leb}
-use lib.ListN.{length, getD, drop, length-append}
-use lib.Seq.{drop-cons}
+use lib.ListN.{length, length-append}
 use borrow.Author.Tests.{eqb-true, le-leb, leb-true}
 use Rattle.rules.specs.declared.kinds.Junction.{Junction}
 use Rattle.rules.specs.declared.kinds.Junction.the-variants.{And, Or}
@@ -19,15 +17,15 @@ use Rattle.rules.specs.declared.kinds.Pair.the-variants.{Then, Overlap, 
 use Rattle.rules.specs.declared.kinds.Repeat.{Repeat}
 use Rattle.rules.specs.declared.kinds.Repeat.the-variants.{Star, Plus}
 use Rattle.rules.specs.declared.kinds.RuleKind.{RuleKind}
-use Rattle.rules.specs.declared.kinds.RuleKind.the-variants.{Letter, Empty, Two, Again}
+use Rattle.rules.specs.declared.kinds.RuleKind.the-variants.{Letter, Empty, Two, Again, Counted, Occurs}
 use Rattle.rules.specs.declared.kinds.Kind.{Kind}
 use Rattle.rules.specs.declared.kinds.Kind.the-variants.{OfFormula, OfRule, Unknown}
-use Rattle.rules.specs.Definition1.{Formula, prop, yea, nay, neg, join, Rule, letter, empty, two, again}
+use Rattle.rules.specs.Definition1.{Formula, prop, yea, nay, neg, join, Rule, letter, empty, two, again, counted, occurs}
 use Rattle.rules.specs.Kinds.{Row, table, lookup, kindOf}
-use Rattle.rules.specs.Reading.{good, fault, Need, rule, formula, body, Value, Rest, scan, takeRule, takeFormula}
-use Rattle.rules.specs.Places.{Here, FormulaAt, a-prop, a-yea, a-nay, a-neg, a-join, RuleAt, a-letter, a-empty, a-two, a-again}
-use Rattle.rules.specs.Encoding.{junctionByte, pairByte, repeatByte, spellF, spell, SmallF, Small}
+use Rattle.rules.specs.Reading.{good, fault, Need, rule, formula, body, counts, Value, Rest, scan, takeRule, takeFormula}
+use Rattle.rules.specs.Encoding.{junctionByte, pairByte, repeatByte, spellF, spell, CountsFit, countsFit, SmallF, Small}
 use Rattle.rules.specs.Answer.{parse}
+use Rattle.rules.proofs.Fitting.{fit-true, true-fit}
 
 -- the byte of a kind
 abbrev byteOf : Kind → ℕ
@@ -41,6 +39,8 @@ byteOf (OfRule Letter) = 0x10
 byteOf (OfRule Empty) = 0x11
 byteOf (OfRule (Two p)) = pairByte p
 byteOf (OfRule (Again p)) = repeatByte p
+byteOf (OfRule Counted) = 0x19
+byteOf (OfRule Occurs) = 0x1A
 
 -- each row has its kind's byte
 abbrev Rows : List Row → Type 0
@@ -56,7 +56,7 @@ found (r ∷ rs) (p, ok) b = go (eqb b (r .byte)) refl (found rs ok b)
     go false e o = o
 
 rows : Rows table
-rows = (refl, (refl, (refl, (refl, (refl, (refl, (refl, (refl, (refl, (refl, (refl, (refl, (refl, (refl, (refl, tt)))))))))))))))
+rows = (refl, (refl, (refl, (refl, (refl, (refl, (refl, (refl, (refl, (refl, (refl, (refl, (refl, (refl, (refl, (refl, (refl, tt)))))))))))))))))
 
 kind-byte : (b : ℕ) → (kindOf b ≡ Unknown) ⊎ (byteOf (kindOf b) ≡ b)
 unfolding kindOf
@@ -67,37 +67,6 @@ f-byte b k q = ⊎-elim (λ u. let z : _≡_ {A = ℕ} 0 1 = cc in absurd (omega
 
 r-byte : (b : ℕ) (k : RuleKind) → kindOf b ≡ OfRule k → b ≡ byteOf (OfRule k)
 r-byte b k q = ⊎-elim (λ u. let z : _≡_ {A = ℕ} 0 1 = cc in absurd (omega arith)) (λ e. sym e ∙ ap byteOf q) (kind-byte b)
-
-module _ (s : List ℕ) where
-  here : {at : ℕ} {κ : Kind} → Here s at κ → getD s at 0 ≡ byteOf κ → drop at s ≡ byteOf κ ∷ drop (at + 1) s
-  here {at} {κ} h q = drop-cons s at 0 (h .inside) ∙ ap₂ (λ (b n : ℕ). b ∷ drop n s) q (sym (add-one at))
-
-  here-f : {at : ℕ} {k : FormulaKind} → Here s at (OfFormula k) → drop at s ≡ byteOf (OfFormula k) ∷ drop (at + 1) s
-  here-f {at} {k} h = here h (f-byte (getD s at 0) k (h .says))
-
-  here-r : {at : ℕ} {k : RuleKind} → Here s at (OfRule k) → drop at s ≡ byteOf (OfRule k) ∷ drop (at + 1) s
-  here-r {at} {k} h = here h (r-byte (getD s at 0) k (h .says))
-
-  -- what stands spelled is its spelling
-  formula-spelt : {at e : ℕ} {f : Formula} → FormulaAt s at f e → (drop at s ≡ spellF f ++ drop e s) × SmallF f
-  formula-spelt (a-prop {at} {i} {e} h l b le q) =
-      (here-f h ∙ ap (λ (t : List ℕ). 0x01 ∷ t) (drop-cons s (at + 1) 0 l ∙ rw (b, ← add-one, q)), le)
-  formula-spelt (a-yea h q) = (here-f h ∙ rw q, tt)
-  formula-spelt (a-nay h q) = (here-f h ∙ rw q, tt)
-  formula-spelt (a-neg h d) = let o = formula-spelt d in (here-f h ∙ ap (λ (t : List ℕ). 0x04 ∷ t) (o .0), o .1)
-  formula-spelt (a-join {j = j} h d d′) =
-      let o = formula-spelt d in
-      let o′ = formula-spelt d′ in
-      (here-f h ∙ ap (λ (t : List ℕ). junctionByte j ∷ t) (o .0 ∙ rw (o′ .0, append-assoc)), (o .1, o′ .1))
-
-  rule-spelt : {at e : ℕ} {r : Rule} → RuleAt s at r e → (drop at s ≡ spell r ++ drop e s) × Small r
-  rule-spelt (a-letter h d) = let o = formula-spelt d in (here-r h ∙ ap (λ (t : List ℕ). 0x10 ∷ t) (o .0), o .1)
-  rule-spelt (a-empty h q) = (here-r h ∙ rw q, tt)
-  rule-spelt (a-again {p = p} h d) = let o = rule-spelt d in (here-r h ∙ ap (λ (t : List ℕ). repeatByte p ∷ t) (o .0), o .1)
-  rule-spelt (a-two {p = p} h d d′) =
-      let o = rule-spelt d in
-      let o′ = rule-spelt d′ in
-      (here-r h ∙ ap (λ (t : List ℕ). pairByte p ∷ t) (o .0 ∙ rw (o′ .0, append-assoc)), (o .1, o′ .1))
 
 -- ---- the spelling is read as the rule
 pub junction-kind : (j : Junction) → kindOf (junctionByte j) ≡ OfFormula (Join j)
@@ -139,6 +108,8 @@ reads (again p a) sm t ns k at = rw (repeat-kind p) (reads a sm t ns (λ x. k (a
 reads (two p a b) (u, v) t ns k at =
     rw (pair-kind p, append-assoc (spell a) (spell b) t)
     (reads a u (spell b ++ t) (rule ∷ ns) (λ x y. k (two p x y)) (at + 1) ∙ reads b v t ns (λ y. k (two p a y)) _ ∙ far t ns (k (two p a b)) _ _ (omega (arith, length-append (spell a) (spell b))))
+reads (counted i j a) (c, sm) t ns k at = rw (fit-true i j c) (reads a sm t ns (λ x. k (counted i j x)) (at + 1 + 2) ∙ far t ns (k (counted i j a)) _ _ (omega arith))
+reads (occurs i j f) (c, sm) t ns k at = rw (fit-true i j c) (reads-f f sm t ns (λ x. k (occurs i j x)) (at + 1 + 2) ∙ far t ns (k (occurs i j f)) _ _ (omega arith))
 
 pub spelt-is-read : (r : Rule) → Small r → parse (spell r) ≡ good r
 spelt-is-read r sm = ap parse (sym (append-nil (spell r))) ∙ reads r sm [] [] (λ x. x) 0
@@ -156,11 +127,13 @@ abbrev spellN : (n : Need) → Value n → List ℕ
 spellN rule r = spell r
 spellN formula f = spellF f
 spellN body i = i ∷ []
+spellN counts c = c .0 ∷ c .1 ∷ []
 
 abbrev SmallN : (n : Need) → Value n → Type 0
 SmallN rule r = Small r
 SmallN formula f = SmallF f
 SmallN body i = i ≤ 5
+SmallN counts c = CountsFit (c .0) (c .1)
 
 abbrev spells : (ns : List Need) → Values ns → List ℕ
 spells [] vs = []
@@ -195,6 +168,12 @@ module _ (b : ℕ) (bs : List ℕ) (ih : (ns : List Need) (k : Rest ns) (at : �
   on-rule k (OfRule (Two p)) e q =
       let i = ih (rule ∷ rule ∷ ns) (λ x y. k (two p x y)) (at + 1) r q in
       record { vs = (two p (i .vs .0) (i .vs .1 .0), i .vs .1 .1); bytes = ap₂ _∷_ (r-byte b (Two p) e) (i .bytes ∙ sym (append-assoc (spell (i .vs .0)) (spell (i .vs .1 .0)) _)); makes = i .makes; small = ((i .small .0, i .small .1 .0), i .small .1 .1) }
+  on-rule k (OfRule Counted) e q =
+      let i = ih (counts ∷ rule ∷ ns) (λ c a. k (counted (c .0) (c .1) a)) (at + 1) r q in
+      record { vs = (counted (i .vs .0 .0) (i .vs .0 .1) (i .vs .1 .0), i .vs .1 .1); bytes = ap₂ _∷_ (r-byte b Counted e) (i .bytes); makes = i .makes; small = ((i .small .0, i .small .1 .0), i .small .1 .1) }
+  on-rule k (OfRule Occurs) e q =
+      let i = ih (counts ∷ formula ∷ ns) (λ c f. k (occurs (c .0) (c .1) f)) (at + 1) r q in
+      record { vs = (occurs (i .vs .0 .0) (i .vs .0 .1) (i .vs .1 .0), i .vs .1 .1); bytes = ap₂ _∷_ (r-byte b Occurs e) (i .bytes); makes = i .makes; small = ((i .small .0, i .small .1 .0), i .small .1 .1) }
 
   on-formula : (k : Formula → Rest ns) (κ : Kind) → kindOf b ≡ κ → takeFormula κ (scan bs) ns k at ≡ good r → Spelt (b ∷ bs) (formula ∷ ns) k r
   on-formula k Unknown e q = absurd (no-fault _ _ _ q)
@@ -221,6 +200,12 @@ module _ (b : ℕ) (bs : List ℕ) (ih : (ns : List Need) (k : Rest ns) (at : �
       let i = ih ns (k b) (at + 1) r q in
       record { vs = (b, i .vs); bytes = ap (λ (t : List ℕ). b ∷ t) (i .bytes); makes = i .makes; small = (leb-true b 5 e, i .small) }
 
+  on-counts : (c : ℕ) (k : ℕ × ℕ → Rest ns) (t : Bool) → countsFit b c ≡ t → cond t (scan bs ns (k (b, c)) (at + 2)) (fault 8 at) ≡ good r → Spelt (b ∷ c ∷ bs) (counts ∷ ns) k r
+  on-counts c k false e q = absurd (no-fault _ _ _ q)
+  on-counts c k true e q =
+      let i = ih ns (k (b, c)) (at + 2) r q in
+      record { vs = ((b, c), i .vs); bytes = ap (λ (t : List ℕ). b ∷ c ∷ t) (i .bytes); makes = i .makes; small = (true-fit b c e, i .small) }
+
 sound : (l : List ℕ) (ns : List Need) (k : Rest ns) (at : ℕ) (r : Rule) → scan l ns k at ≡ good r → Spelt l ns k r
 sound [] [] k at r q = record { vs = tt; bytes = refl; makes = cc; small = tt }
 sound [] (n ∷ ns) k at r q = absurd (no-fault _ _ _ q)
@@ -228,6 +213,8 @@ sound (b ∷ bs) [] k at r q = absurd (no-fault _ _ _ q)
 sound (b ∷ bs) (rule ∷ ns) k at r q = on-rule b bs (sound bs) ns at r k (kindOf b) refl q
 sound (b ∷ bs) (formula ∷ ns) k at r q = on-formula b bs (sound bs) ns at r k (kindOf b) refl q
 sound (b ∷ bs) (body ∷ ns) k at r q = on-body b bs (sound bs) ns at r k (leb b 5) refl q
+sound (b ∷ []) (counts ∷ ns) k at r q = absurd (no-fault _ _ _ q)
+sound (b ∷ c ∷ bs) (counts ∷ ns) k at r q = on-counts b bs (sound bs) ns at r c k (countsFit b c) refl q
 
 -- accepted bytes are exactly the spellings
 pub read-is-spelt : (s : List ℕ) (r : Rule) → parse s ≡ good r → (spell r ≡ s) × Small r

@@ -3,7 +3,7 @@ use Prim.Native.Nat.{ℕ}
 use mathlib.Core.Bool.{Bool, true, false, not, _&&_}
 use mathlib.Core.List.{List, [], _∷_}
 use lib.Dec.{T, T-not}
-use Rattle.bits.specs.Word.{bit}
+use Rattle.bits.specs.Word.{bit, any}
 use Rattle.bits.proofs.Truths.{and-T}
 use Rattle.rules.specs.Definition1.{Rule}
 use Rattle.rules.specs.Definition2.{holds, Sat}
@@ -31,5 +31,5 @@ by-verdict (c ∷ cs) t =
     (right (c .rule) (c .sequence) (c .says) (h .0), by-verdict cs (h .1))
 
 pub sequences-right : AllRight sequences
-unfolding all-agree agrees holds bit
+unfolding all-agree agrees holds bit any
 sequences-right = by-verdict sequences tt

@@ -1,3 +1,4 @@
+pub mod Fitting
 pub mod Scan
 pub mod Steps
 pub mod PlacesOnce
@@ -14,6 +15,7 @@ pub mod Once
 pub mod EndsOnce
 pub mod Accepting
 pub mod Maps
+pub mod PartsInARow
 pub mod Deciding
 pub mod Held
 pub mod Faulting

@@ -1,14 +1,14 @@
 -- Which propositions a formula and a rule name, put together from what their parts name: one law for each form; and what the set's bits say. Assumes nothing.
-use Prim.Native.Nat.{ℕ, _+_, _≤_, _<_, _^_}
+use Prim.Native.Nat.{ℕ, _+_, _≤_, _^_}
 use mathlib.Core.Path.{_≡_, refl, sym, ap, ap₂, _∙_}
-use mathlib.Core.Bool.{Bool, false, _||_}
+use mathlib.Core.Bool.{Bool, _||_}
 use mathlib.Core.List.{List}
 use native.Mathlib.Omega.{arith}
 use lib.Bits.{bitOr, or-lt}
 use lib.Dec.{eqb}
 use lib.ListN.{getD}
 use lib.Pow.{pow-pos, pow-lt}
-use Rattle.bits.specs.Word.{bit, word, insert}
+use Rattle.bits.specs.Word.{word, insert}
 use Rattle.bits.proofs.Laws.{word-or, word-no-bit, word-unique, bit-insert, bit-zero}
 use Rattle.rules.specs.declared.kinds.Junction.{Junction}
 use Rattle.rules.specs.declared.kinds.Pair.{Pair}
@@ -16,7 +16,7 @@ use Rattle.rules.specs.declared.kinds.Repeat.{Repeat}
 use Rattle.rules.specs.declared.kinds.FormulaKind.the-variants.{Proposition, Truth, Falsity, Not, Join}
 use Rattle.rules.specs.declared.kinds.Kind.the-variants.{OfFormula}
 use Rattle.rules.specs.declared.names.Names.{Names}
-use Rattle.rules.specs.Definition1.{Formula, prop, Rule, letter, empty, two, again}
+use Rattle.rules.specs.Definition1.{Formula, prop, Rule, letter, empty, two, again, counted, occurs}
 use Rattle.rules.specs.Definition2.{lastProposition}
 use Rattle.rules.specs.Kinds.{kindOf}
 use Rattle.rules.specs.Named.{propositionCount, formulaNames, ruleNames, usesOf}
@@ -79,6 +79,14 @@ empty-uses = word-no-bit propositionCount
 pub again-uses : (p : Repeat) (a : Rule) → usesOf a ≡ usesOf (again p a)
 unfolding ruleNames
 again-uses p a = refl
+
+pub counted-uses : (i j : ℕ) (a : Rule) → usesOf a ≡ usesOf (counted i j a)
+unfolding ruleNames
+counted-uses i j a = refl
+
+pub occurs-uses : (i j : ℕ) (f : Formula) → namesOf f ≡ usesOf (occurs i j f)
+unfolding ruleNames
+occurs-uses i j f = refl
 
 pub two-uses : (p : Pair) (a b : Rule) (x y : ℕ) → x ≡ usesOf a → y ≡ usesOf b → bitOr x y ≡ usesOf (two p a b)
 unfolding ruleNames

@@ -6,7 +6,7 @@ use mathlib.Core.Bool.{true, cond}
 use mathlib.Core.List.{List}
 use lib.Dec.{eqb, ltb}
 use Rattle.rules.specs.declared.Refusal.{Refusal}
-use Rattle.rules.specs.declared.Refusal.the-variants.{TooLong, Ended, UnknownKind, WrongSort, NoProposition, Leftover, TooHeavy}
+use Rattle.rules.specs.declared.Refusal.the-variants.{TooLong, Ended, UnknownKind, WrongSort, NoProposition, Leftover, TooHeavy, BadCounts}
 use Rattle.rules.specs.declared.RuleAnswer.{RuleAnswer}
 use Rattle.rules.specs.declared.RuleAnswer.the-variants.{Accepted, Refused}
 use Rattle.rules.specs.Refusals.{number, place}
@@ -22,7 +22,7 @@ named n p =
     cond (eqb n 1) TooLong
     (cond (eqb n 2) (Ended p)
     (cond (eqb n 3) (UnknownKind p)
-    (cond (eqb n 4) (WrongSort p) (cond (eqb n 5) (NoProposition p) (cond (eqb n 6) (Leftover p) TooHeavy)))))
+    (cond (eqb n 4) (WrongSort p) (cond (eqb n 5) (NoProposition p) (cond (eqb n 6) (Leftover p) (cond (eqb n 7) TooHeavy (BadCounts p)))))))
 
 abbrev meant : Result → RuleAnswer
 meant (accepted k) = Accepted k
@@ -36,13 +36,14 @@ named-told (WrongSort p) = refl
 named-told (NoProposition p) = refl
 named-told (Leftover p) = refl
 named-told TooHeavy = refl
+named-told (BadCounts p) = refl
 
 -- a refusal is known by its number and its place
 pub one-refusal : (x y : Refusal) → number x ≡ number y → place x ≡ place y → x ≡ y
 one-refusal x y n p = sym (named-told x) ∙ ap₂ named n p ∙ named-told y
 
--- the numbers of a rule's refusals are those below 8
-of-a-rule : (x : Refusal) → ltb (number x) 8 ≡ true
+-- the numbers of a rule's refusals are those below 9
+of-a-rule : (x : Refusal) → ltb (number x) 9 ≡ true
 of-a-rule TooLong = refl
 of-a-rule (Ended p) = refl
 of-a-rule (UnknownKind p) = refl
@@ -50,10 +51,11 @@ of-a-rule (WrongSort p) = refl
 of-a-rule (NoProposition p) = refl
 of-a-rule (Leftover p) = refl
 of-a-rule TooHeavy = refl
+of-a-rule (BadCounts p) = refl
 
 -- what a call that hands a rule's refusal on, as `made` makes it, means by a number and a place; `own` is what it means by other numbers
 abbrev pub handedOn : {A : Type 0} → (Refusal → A) → A → ℕ → ℕ → A
-handedOn made own n p = cond (ltb n 8) (made (named n p)) own
+handedOn made own n p = cond (ltb n 9) (made (named n p)) own
 
 pub handed-on : {A : Type 0} (made : Refusal → A) (own : A) (x : Refusal) → handedOn made own (number x) (place x) ≡ made x
 handed-on made own x = rw (of-a-rule x) (ap made (named-told x))

@@ -8,17 +8,17 @@ use lib.Dec.{leb}
 use lib.ListN.{length, getD, drop}
 use Rattle.rules.specs.declared.kinds.FormulaKind.the-variants.{Proposition, Truth, Falsity, Not, Join}
 use Rattle.rules.specs.declared.kinds.RuleKind.{RuleKind}
-use Rattle.rules.specs.declared.kinds.RuleKind.the-variants.{Letter, Empty, Two, Again}
+use Rattle.rules.specs.declared.kinds.RuleKind.the-variants.{Letter, Empty, Two, Again, Counted, Occurs}
 use Rattle.rules.specs.declared.kinds.FormulaKind.{FormulaKind}
 use Rattle.rules.specs.declared.kinds.Kind.{Kind}
 use Rattle.rules.specs.declared.kinds.Kind.the-variants.{OfFormula, OfRule, Unknown}
 use Rattle.rules.specs.declared.Refusal.{Refusal}
 use Rattle.rules.specs.declared.ends.Read.{Read}
 use Rattle.rules.specs.declared.ends.Read.the-variants.{Ends, Refused}
-use Rattle.rules.specs.Definition1.{Formula, prop, yea, nay, neg, join, Rule, letter, empty, two, again}
+use Rattle.rules.specs.Definition1.{Formula, prop, yea, nay, neg, join, Rule, letter, empty, two, again, counted, occurs}
 use Rattle.rules.specs.Kinds.{kindOf}
 use Rattle.rules.specs.Reading.{good, fault, Need, body, Rest, scan}
-use Rattle.rules.specs.Places.{Here, FormulaAt, a-prop, a-yea, a-nay, a-neg, a-join, RuleAt, a-letter, a-empty, a-two, a-again}
+use Rattle.rules.specs.Places.{HasCounts, Here, FormulaAt, a-prop, a-yea, a-nay, a-neg, a-join, RuleAt, a-letter, a-empty, a-two, a-again, a-counted, an-occurs}
 use Rattle.rules.specs.Walks.{FormulaRead, RuleRead, shown}
 use Rattle.rules.proofs.Scan.{over-formula, over-rule}
 
@@ -40,6 +40,8 @@ RuleInv s at Letter r e = (f : Formula) × (r ≡ letter f) × FormulaAt s (at +
 RuleInv s at Empty r e = (r ≡ empty) × (at + 1 ≡ e)
 RuleInv s at (Two p) r e = (a : Rule) × (b : Rule) × (m : ℕ) × (r ≡ two p a b) × RuleAt s (at + 1) a m × RuleAt s m b e
 RuleInv s at (Again p) r e = (a : Rule) × (r ≡ again p a) × RuleAt s (at + 1) a e
+RuleInv s at Counted r e = (a : Rule) × (r ≡ counted (getD s (at + 1) 0) (getD s (at + 2) 0) a) × HasCounts s at (getD s (at + 1) 0) (getD s (at + 2) 0) × RuleAt s (at + 3) a e
+RuleInv s at Occurs r e = (f : Formula) × (r ≡ occurs (getD s (at + 1) 0) (getD s (at + 2) 0) f) × HasCounts s at (getD s (at + 1) 0) (getD s (at + 2) 0) × FormulaAt s (at + 3) f e
 
 abbrev pub RuleInv′ : List ℕ → ℕ → Kind → Rule → ℕ → Type 0
 RuleInv′ s at (OfRule k) r e = RuleInv s at k r e
@@ -60,11 +62,20 @@ module _ (s : List ℕ) where
   formula-inv (a-neg {e = e} h d) = as-f _ e h (_, refl, d)
   formula-inv (a-join {e = e} h d d′) = as-f _ e h (_, _, _, refl, d, d′)
 
+  -- the counts are the two bytes
+  counts-are : {A B : Type 0} (made : ℕ → ℕ → A → B) (a : A) {at i j : ℕ} → HasCounts s at i j → made i j a ≡ made (getD s (at + 1) 0) (getD s (at + 2) 0) a
+  counts-are made a c = let p = c .first in let q = c .second in cc
+
+  same-counts : {at i j : ℕ} → HasCounts s at i j → HasCounts s at (getD s (at + 1) 0) (getD s (at + 2) 0)
+  same-counts c = record { inside = c .inside; first = refl; second = refl; fit = rw (c .first, c .second) (c .fit) }
+
   rule-inv : {at e : ℕ} {r : Rule} → RuleAt s at r e → RuleInv′ s at (kindOf (getD s at 0)) r e
   rule-inv (a-letter {e = e} h d) = as-r _ e h (_, refl, d)
   rule-inv (a-empty {e = e} h q) = as-r _ e h (refl, q)
   rule-inv (a-two {e = e} h d d′) = as-r _ e h (_, _, _, refl, d, d′)
   rule-inv (a-again {e = e} h d) = as-r _ e h (_, refl, d)
+  rule-inv (a-counted {e = e} {a = a} h c d) = as-r _ e h (a, counts-are counted a c, same-counts c, d)
+  rule-inv (an-occurs {e = e} {f = f} h c d) = as-r _ e h (f, counts-are occurs f c, same-counts c, d)
 
   -- the same, where the kind is known
   pub formula-of : (κ : Kind) {at e : ℕ} {f : Formula} → FormulaAt s at f e → kindOf (getD s at 0) ≡ κ → FormulaInv′ s at κ f e
@@ -86,6 +97,8 @@ module _ (s : List ℕ) where
   rule-inside (a-empty h q) = h .inside
   rule-inside (a-two h d d′) = h .inside
   rule-inside (a-again h d) = h .inside
+  rule-inside (a-counted h c d) = h .inside
+  rule-inside (an-occurs h c d) = h .inside
 
   -- at most one
   pub formula-once : {at e : ℕ} {f : Formula} → FormulaAt s at f e → (f′ : Formula) (e′ : ℕ) → FormulaAt s at f′ e′ → (f ≡ f′) × (e ≡ e′)
@@ -117,6 +130,14 @@ module _ (s : List ℕ) where
       let o = rule-once x (i .0) (i .2) (i .4) in
       let o′ = rule-once y (i .1) e′ (rw (o .1) (i .5)) in
       (cc, o′ .1)
+  rule-once (a-counted {at = at} {a = a} h c x) r′ e′ d =
+      let i = rule-of (OfRule Counted) d (h .says) in
+      let o = rule-once x (i .0) e′ (i .3) in
+      (counts-are counted a c ∙ ap (counted (getD s (at + 1) 0) (getD s (at + 2) 0)) (o .0) ∙ sym (i .1), o .1)
+  rule-once (an-occurs {at = at} {f = f} h c x) r′ e′ d =
+      let i = rule-of (OfRule Occurs) d (h .says) in
+      let o = formula-once x (i .0) e′ (i .3) in
+      (counts-are occurs f c ∙ ap (occurs (getD s (at + 1) 0) (getD s (at + 2) 0)) (o .0) ∙ sym (i .1), o .1)
 
 -- no refusal is what every reading on comes to
 not-6-5 : (x : Refusal) (e : ℕ) → fault 6 e ≡ shown x → fault 5 e ≡ shown x → ⊥

@@ -8,11 +8,11 @@ use lib.ListN.{length, getD, drop, length-drop, drop-of-length-le}
 use lib.Seq.{drop-cons}
 use native.Mathlib.Decide.{decLt}
 use Rattle.rules.specs.declared.kinds.Kind.{Kind}
-use Rattle.rules.specs.Definition1.{Formula, prop, yea, nay, neg, join, Rule, letter, empty, two, again}
+use Rattle.rules.specs.Definition1.{Formula, prop, yea, nay, neg, join, Rule, letter, empty, two, again, counted, occurs}
 use Rattle.rules.specs.Kinds.{kindOf}
 use Rattle.rules.specs.Reading.{good}
-use Rattle.rules.specs.Places.{Here, FormulaAt, a-prop, a-yea, a-nay, a-neg, a-join, RuleAt, a-letter, a-empty, a-two, a-again}
-use Rattle.rules.specs.Encoding.{spellF, spell, SmallF, Small}
+use Rattle.rules.specs.Places.{HasCounts, Here, FormulaAt, a-prop, a-yea, a-nay, a-neg, a-join, RuleAt, a-letter, a-empty, a-two, a-again, a-counted, an-occurs}
+use Rattle.rules.specs.Encoding.{spellF, spell, CountsFit, SmallF, Small}
 use Rattle.rules.specs.Answer.{parse}
 use Rattle.rules.proofs.Scan.{rule-ends}
 use Rattle.rules.proofs.Encode.{junction-kind, pair-kind, repeat-kind, read-is-spelt}
@@ -51,6 +51,14 @@ module _ (s : List ℕ) where
       let y = stands-f g v (x .0) t (x .2) in
       (y .0, a-join (at-kind a (junction-kind j)) (x .1) (y .1), y .2)
 
+  stand-counts : (at i j : ℕ) (t : List ℕ) → CountsFit i j → drop (at + 1) s ≡ i ∷ j ∷ t → HasCounts s at i j × (drop (at + 3) s ≡ t)
+  stand-counts at i j t f q =
+      let a = first (at + 1) i (j ∷ t) q in
+      let b = first (at + 1 + 1) j t (a .rest) in
+      let e : at + 1 + 1 ≡ at + 2 = omega arith in
+      let e′ : at + 1 + 1 + 1 ≡ at + 3 = omega arith in
+      (record { inside = omega (arith, b .inside); first = a .byte; second = ap (λ (n : ℕ). getD s n 0) (sym e) ∙ b .byte; fit = f }, ap (λ (n : ℕ). drop n s) (sym e′) ∙ b .rest)
+
   stands-r : (r : Rule) → Small r → (at : ℕ) (t : List ℕ) → drop at s ≡ spell r ++ t → (e : ℕ) × RuleAt s at r e × (drop e s ≡ t)
   unfolding kindOf
   stands-r (letter f) sm at t q =
@@ -67,6 +75,16 @@ module _ (s : List ℕ) where
       let x = stands-r l u (at + 1) (spell r ++ t) (a .rest ∙ append-assoc (spell l) (spell r) t) in
       let y = stands-r r v (x .0) t (x .2) in
       (y .0, a-two (at-kind a (pair-kind p)) (x .1) (y .1), y .2)
+  stands-r (counted i j r) (f, sm) at t q =
+      let a = first at 0x19 (i ∷ j ∷ (spell r ++ t)) q in
+      let c = stand-counts at i j (spell r ++ t) f (a .rest) in
+      let b = stands-r r sm (at + 3) t (c .1) in
+      (b .0, a-counted (at-kind a refl) (c .0) (b .1), b .2)
+  stands-r (occurs i j g) (f, sm) at t q =
+      let a = first at 0x1A (i ∷ j ∷ (spellF g ++ t)) q in
+      let c = stand-counts at i j (spellF g ++ t) f (a .rest) in
+      let b = stands-f g sm (at + 3) t (c .1) in
+      (b .0, an-occurs (at-kind a refl) (c .0) (b .1), b .2)
 
   -- an accepted rule stands, from 0 to the end
   pub stands : (r : Rule) → parse s ≡ good r → RuleAt s 0 r (length s)

@@ -10,12 +10,15 @@ use Rattle.rules.specs.declared.kinds.Junction.{Junction}
 use Rattle.rules.specs.declared.kinds.RuleKind.{RuleKind}
 use Rattle.rules.specs.declared.kinds.Pair.{Pair}
 use Rattle.rules.specs.declared.kinds.Repeat.{Repeat}
-use Rattle.rules.specs.declared.kinds.RuleKind.the-variants.{Letter, Two, Again}
+use Rattle.rules.specs.declared.kinds.RuleKind.the-variants.{Letter, Two, Again, Counted, Occurs}
 use Rattle.rules.specs.declared.kinds.Kind.{Kind}
 use Rattle.rules.specs.declared.kinds.Kind.the-variants.{OfFormula, OfRule, Unknown}
+use Rattle.rules.specs.declared.counts.Counts.{Counts}
 use Rattle.rules.specs.Definition1.{Rule}
 use Rattle.rules.specs.Kinds.{kindOf}
-use Rattle.rules.specs.Places.{RuleAt, GoodFormula, GoodRule, FormulaEnds}
+use Rattle.rules.specs.Encoding.{CountsFit}
+use Rattle.rules.specs.Walks.{CountsAs}
+use Rattle.rules.specs.Places.{HasCounts, RuleAt, GoodFormula, GoodRule, FormulaEnds}
 use Rattle.rules.proofs.Scan.{rule-ends, formula-ends}
 use Rattle.rules.proofs.PlacesOnce.{rule-of, rule-inside, formula-of, formula-inside}
 
@@ -43,6 +46,18 @@ module _ (s : List ℕ) (at : ℕ) (g : GoodRule s at) where
 
   pub good-again : (p : Repeat) → kindOf (getD s at 0) ≡ OfRule (Again p) → GoodRule s (at + 1)
   good-again p q = let i = rule-of s (OfRule (Again p)) (g .2) q in (i .0, g .1, i .2)
+
+  pub has-counts : kindOf (getD s at 0) ≡ OfRule Counted → HasCounts s at (getD s (at + 1) 0) (getD s (at + 2) 0)
+  has-counts q = rule-of s (OfRule Counted) (g .2) q .2
+
+  pub good-counted : kindOf (getD s at 0) ≡ OfRule Counted → GoodRule s (at + 3)
+  good-counted q = let i = rule-of s (OfRule Counted) (g .2) q in (i .0, g .1, i .3)
+
+  pub occurs-counts : kindOf (getD s at 0) ≡ OfRule Occurs → HasCounts s at (getD s (at + 1) 0) (getD s (at + 2) 0)
+  occurs-counts q = rule-of s (OfRule Occurs) (g .2) q .2
+
+  pub good-occurs : kindOf (getD s at 0) ≡ OfRule Occurs → GoodFormula s (at + 3)
+  good-occurs q = let i = rule-of s (OfRule Occurs) (g .2) q in (i .0, g .1, i .3)
 
   pub good-first : (p : Pair) → kindOf (getD s at 0) ≡ OfRule (Two p) → GoodRule s (at + 1)
   good-first p q = let i = rule-of s (OfRule (Two p)) (g .2) q in (i .0, i .2, i .4)
@@ -83,3 +98,13 @@ module _ (s : List ℕ) (at : ℕ) (g : GoodFormula s at) where
       let o = ends (i .0) (i .2) (i .4) in
       let l = formula-ends s (i .4) in
       (rw o (i .1, g .1, i .5), omega arith)
+
+-- ---- the counts that were read
+
+module _ (s : List ℕ) (at : ℕ) (c : Counts) (h : CountsAs s at c) where
+  -- the counts that were read are those of the rule
+  pub counts-told : HasCounts s at (getD s (at + 1) 0) (getD s (at + 2) 0) → CountsFit (c .low) (c .high)
+  counts-told k = let f = k .fit in let l = h .low in let u = h .high in record { rising = let r = f .rising in omega arith; small = let r = f .small in omega arith }
+
+  pub told-counts : {A B : Type 0} (made : ℕ → ℕ → A → B) (a : A) (r : B) → r ≡ made (getD s (at + 1) 0) (getD s (at + 2) 0) a → r ≡ made (c .low) (c .high) a
+  told-counts made a r e = let l = h .low in let u = h .high in cc

@@ -11,9 +11,12 @@ pub data Formula : Type 0 where
   neg : Formula → Formula
   join : Junction → Formula → Formula → Formula
 
--- one letter of which a formula holds, the empty sequence, the pairs (`;` `:` `|` `&` `&&`) and the repetitions (`[*]` `[+]`)
+-- one letter of which a formula holds, the empty sequence, the pairs (`;` `:` `|` `&` `&&`), the repetitions (`[*]` `[+]`), and the two
+-- that count from i to j: parts that a rule accepts (`[*i..j]`), letters of which a formula holds (`[=i..j]`)
 pub data Rule : Type 0 where
   letter : Formula → Rule
   empty : Rule
   two : Pair → Rule → Rule → Rule
   again : Repeat → Rule → Rule
+  counted : (i j : ℕ) → Rule → Rule
+  occurs : (i j : ℕ) → Formula → Rule

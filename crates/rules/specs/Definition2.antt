@@ -1,8 +1,8 @@
 -- Source document 001, Definition 2: which sequences of letters a rule accepts, a line for each operator. Assumes nothing: these are definitions.
-use Prim.Native.Nat.{ℕ}
+use Prim.Native.Nat.{ℕ, zero, suc, _+_, _≤_}
 use mathlib.Core.Path.{_≡_}
 use mathlib.Core.Logic.{_⊎_, _≢_}
-use mathlib.Core.Bool.{Bool, true, false, not, _&&_, _||_}
+use mathlib.Core.Bool.{Bool, true, false, not, cond, _&&_, _||_}
 use mathlib.Core.List.{List, [], _∷_, _++_}
 use lib.Dec.{T}
 use Rattle.bits.specs.Word.{bit}
@@ -10,7 +10,7 @@ use Rattle.rules.specs.declared.kinds.Junction.{Junction}
 use Rattle.rules.specs.declared.kinds.Junction.the-variants.{And, Or}
 use Rattle.rules.specs.declared.kinds.Pair.the-variants.{Then, Overlap, Either, Within, Both}
 use Rattle.rules.specs.declared.kinds.Repeat.the-variants.{Star, Plus}
-use Rattle.rules.specs.Definition1.{Formula, prop, yea, nay, neg, join, Rule, letter, empty, two, again}
+use Rattle.rules.specs.Definition1.{Formula, prop, yea, nay, neg, join, Rule, letter, empty, two, again, counted, occurs}
 
 -- a letter is a number below this; proposition i holds in it where its bit i is set
 abbrev pub letterCount : ℕ
@@ -67,6 +67,28 @@ pub data Repeats (P : List ℕ → Type 0) : List ℕ → Type 0 where
   none : Repeats P []
   more : {w : List ℕ} (w1 w2 : List ℕ) → w ≡ w1 ++ w2 → w1 ≢ [] → P w1 → Repeats P w2 → Repeats P w
 
+-- w is k parts in a row, each in P; an empty part counts like any other
+abbrev pub InARow : (List ℕ → Type 0) → ℕ → List ℕ → Type 0
+InARow P zero w = w ≡ []
+InARow P (suc k) w = Parts P (InARow P k) w
+
+-- w is some number k of parts in a row, from i to j of them
+pub record CountedParts (i j : ℕ) (P : List ℕ → Type 0) (w : List ℕ) : Type 0 where
+  pub k : ℕ
+  pub low : i ≤ k
+  pub high : k ≤ j
+  pub parts : InARow P k w
+
+-- how many letters of w satisfy f
+abbrev pub satisfying : (ℕ → Bool) → List ℕ → ℕ
+satisfying f [] = 0
+satisfying f (x ∷ w) = cond (f x) 1 0 + satisfying f w
+
+-- from i to j letters of w satisfy f, wherever they stand; the others are any
+pub record CountedLetters (i j : ℕ) (f : ℕ → Bool) (w : List ℕ) : Type 0 where
+  pub low : i ≤ satisfying f w
+  pub high : satisfying f w ≤ j
+
 -- the rule accepts w
 unfoldable pub Sat : Rule → List ℕ → Type 0
 Sat empty w = w ≡ []
@@ -78,3 +100,5 @@ Sat (two Within a b) w = (Sat a w × Begins (Sat b) w) ⊎ (Sat b w × Begins (S
 Sat (two Both a b) w = Sat a w × Sat b w
 Sat (again Star a) w = Repeats (Sat a) w
 Sat (again Plus a) w = Parts (Sat a) (Repeats (Sat a)) w
+Sat (counted i j a) w = CountedParts i j (Sat a) w
+Sat (occurs i j f) w = CountedLetters i j (holds f) w

@@ -1,6 +1,8 @@
 -- The house form: the bytes that spell a rule. Assumes nothing: these are definitions.
 use Prim.Native.Nat.{ℕ, _≤_}
+use mathlib.Core.Bool.{Bool, _&&_}
 use mathlib.Core.List.{List, [], _∷_, _++_}
+use lib.Dec.{leb}
 use Rattle.rules.specs.declared.kinds.Junction.{Junction}
 use Rattle.rules.specs.declared.kinds.Junction.the-variants.{And, Or}
 use Rattle.rules.specs.declared.kinds.Pair.{Pair}
@@ -8,7 +10,7 @@ use Rattle.rules.specs.declared.kinds.Pair.the-variants.{Then, Overlap, 
 use Rattle.rules.specs.declared.kinds.Repeat.{Repeat}
 use Rattle.rules.specs.declared.kinds.Repeat.the-variants.{Star, Plus}
 use Rattle.rules.specs.Definition2.{lastProposition}
-use Rattle.rules.specs.Definition1.{Formula, prop, yea, nay, neg, join, Rule, letter, empty, two, again}
+use Rattle.rules.specs.Definition1.{Formula, prop, yea, nay, neg, join, Rule, letter, empty, two, again, counted, occurs}
 
 abbrev pub junctionByte : Junction → ℕ
 junctionByte And = 0x05
@@ -37,8 +39,22 @@ spell (letter f) = 0x10 ∷ spellF f
 spell empty = 0x11 ∷ []
 spell (two p a b) = pairByte p ∷ (spell a ++ spell b)
 spell (again p a) = repeatByte p ∷ spell a
+spell (counted i j a) = 0x19 ∷ i ∷ j ∷ spell a
+spell (occurs i j f) = 0x1A ∷ i ∷ j ∷ spellF f
 
--- every proposition is one of those that there are
+abbrev pub largestCount : ℕ
+largestCount = 15
+
+-- i and j may stand as the two counts
+pub record CountsFit (i j : ℕ) : Type 0 where
+  pub rising : i ≤ j
+  pub small : j ≤ largestCount
+
+-- the same as a test
+abbrev pub countsFit : ℕ → ℕ → Bool
+countsFit i j = leb i j && leb j largestCount
+
+-- every proposition is one of those that there are, and counts fit
 abbrev pub SmallF : Formula → Type 0
 SmallF (prop i) = i ≤ lastProposition
 SmallF yea = Unit {0}
@@ -51,3 +67,5 @@ Small (letter f) = SmallF f
 Small empty = Unit {0}
 Small (two p a b) = Small a × Small b
 Small (again p a) = Small a
+Small (counted i j a) = CountsFit i j × Small a
+Small (occurs i j f) = CountsFit i j × SmallF f

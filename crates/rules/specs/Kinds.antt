@@ -7,7 +7,7 @@ use Rattle.rules.specs.declared.kinds.Junction.the-variants.{And, Or}
 use Rattle.rules.specs.declared.kinds.FormulaKind.the-variants.{Proposition, Truth, Falsity, Not, Join}
 use Rattle.rules.specs.declared.kinds.Pair.the-variants.{Then, Overlap, Either, Within, Both}
 use Rattle.rules.specs.declared.kinds.Repeat.the-variants.{Star, Plus}
-use Rattle.rules.specs.declared.kinds.RuleKind.the-variants.{Letter, Empty, Two, Again}
+use Rattle.rules.specs.declared.kinds.RuleKind.the-variants.{Letter, Empty, Two, Again, Counted, Occurs}
 use Rattle.rules.specs.declared.kinds.Kind.{Kind}
 use Rattle.rules.specs.declared.kinds.Kind.the-variants.{OfFormula, OfRule, Unknown}
 
@@ -36,6 +36,8 @@ table =
     ∷ row 0x16 (OfRule (Two Both))
     ∷ row 0x17 (OfRule (Again Star))
     ∷ row 0x18 (OfRule (Again Plus))
+    ∷ row 0x19 (OfRule Counted)
+    ∷ row 0x1A (OfRule Occurs)
     ∷ []
 
 -- the first row that has the byte; `cond` is the first of two where a test is true, else the second

@@ -3,7 +3,7 @@ use Prim.Native.Nat.{ℕ, _+_}
 use mathlib.Core.Bool.{Bool, false, _||_}
 use lib.Dec.{eqb}
 use Rattle.bits.specs.Word.{word}
-use Rattle.rules.specs.Definition1.{Formula, prop, yea, nay, neg, join, Rule, letter, empty, two, again}
+use Rattle.rules.specs.Definition1.{Formula, prop, yea, nay, neg, join, Rule, letter, empty, two, again, counted, occurs}
 use Rattle.rules.specs.Definition2.{lastProposition}
 
 abbrev pub propositionCount : ℕ
@@ -23,6 +23,8 @@ ruleNames (letter f) i = formulaNames f i
 ruleNames empty i = false
 ruleNames (two p a b) i = ruleNames a i || ruleNames b i
 ruleNames (again p a) i = ruleNames a i
+ruleNames (counted l h a) i = ruleNames a i
+ruleNames (occurs l h f) i = formulaNames f i
 
 -- the set of the propositions that it names, bit i for proposition i
 abbrev pub usesOf : Rule → ℕ

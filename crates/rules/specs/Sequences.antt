@@ -5,7 +5,7 @@ use mathlib.Core.List.{List, [], _∷_}
 use lib.Dec.{T}
 use Rattle.rules.specs.declared.kinds.Pair.the-variants.{Then, Overlap, Within, Both}
 use Rattle.rules.specs.declared.kinds.Repeat.the-variants.{Star, Plus}
-use Rattle.rules.specs.Definition1.{prop, Rule, letter, empty, two, again}
+use Rattle.rules.specs.Definition1.{prop, Rule, letter, empty, two, again, counted, occurs}
 use Rattle.rules.specs.Definition2.{Sat}
 
 -- a rule, a sequence, and whether the rule accepts it
@@ -37,6 +37,13 @@ p1 = letter (prop 1)
 abbrev pub p0-then-p1 : Rule
 p0-then-p1 = two Then p0 p1
 
+-- three to five expiries, one after the other; and wherever they stand
+abbrev pub three-to-five : Rule
+three-to-five = counted 3 5 p0
+
+abbrev pub three-to-five-anywhere : Rule
+three-to-five-anywhere = occurs 3 5 (prop 0)
+
 abbrev pub sequences : List Case
 sequences =
     yes-on empty []
@@ -53,4 +60,19 @@ sequences =
     ∷ no-on (two Both p0 p0-then-p1) (1 ∷ 2 ∷ [])
     ∷ yes-on (again Plus empty) []
     ∷ no-on (two Overlap (again Star p0) (again Star p0)) []
+    ∷ no-on three-to-five (1 ∷ 1 ∷ [])
+    ∷ yes-on three-to-five (1 ∷ 1 ∷ 1 ∷ [])
+    ∷ yes-on three-to-five (1 ∷ 1 ∷ 1 ∷ 1 ∷ 1 ∷ [])
+    ∷ no-on three-to-five (1 ∷ 1 ∷ 1 ∷ 1 ∷ 1 ∷ 1 ∷ [])
+    ∷ no-on three-to-five (1 ∷ 1 ∷ 0 ∷ 1 ∷ [])
+    ∷ yes-on (counted 3 3 empty) []
+    ∷ yes-on (counted 2 2 (again Star p0)) (1 ∷ [])
+    ∷ yes-on (counted 0 0 p0) []
+    ∷ no-on (counted 0 0 p0) (1 ∷ [])
+    ∷ no-on three-to-five-anywhere (1 ∷ 0 ∷ 1 ∷ 0 ∷ [])
+    ∷ yes-on three-to-five-anywhere (2 ∷ 1 ∷ 0 ∷ 1 ∷ 1 ∷ 0 ∷ [])
+    ∷ no-on three-to-five-anywhere (1 ∷ 1 ∷ 1 ∷ 0 ∷ 1 ∷ 1 ∷ 1 ∷ [])
+    ∷ yes-on (occurs 0 0 (prop 0)) []
+    ∷ yes-on (occurs 0 0 (prop 0)) (0 ∷ 2 ∷ [])
+    ∷ no-on (occurs 0 0 (prop 0)) (0 ∷ 1 ∷ [])
     ∷ []

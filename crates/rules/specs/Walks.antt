@@ -8,6 +8,7 @@ use Rattle.bits.specs.Word.{word}
 use Rattle.rules.specs.declared.Refusal.{Refusal}
 use Rattle.rules.specs.declared.ends.Read.{Read}
 use Rattle.rules.specs.declared.ends.Read.the-variants.{Ends, Refused}
+use Rattle.rules.specs.declared.counts.Counts.{Counts}
 use Rattle.rules.specs.declared.names.Names.{Names}
 use Rattle.rules.specs.declared.weights.Weighed.{Weighed}
 use Rattle.rules.specs.declared.formulas.Held.{Held}
@@ -18,7 +19,8 @@ use Rattle.rules.specs.Definition2.{letterCount, lastProposition, joined
 use Rattle.rules.specs.Weight.{weightOf, countedTo}
 use Rattle.rules.specs.Named.{propositionCount, formulaNames, usesOf}
 use Rattle.rules.specs.Refusals.{number, place}
-use Rattle.rules.specs.Reading.{Outcome, fault, Need, rule, formula, body, Value, Rest, scan}
+use Rattle.rules.specs.Encoding.{CountsFit}
+use Rattle.rules.specs.Reading.{Outcome, fault, Need, rule, formula, body, counts, Value, Rest, scan}
 use Rattle.rules.specs.Places.{FormulaAt, RuleAt}
 
 abbrev pub shown : Refusal → Outcome
@@ -33,6 +35,10 @@ abbrev pub BodyRead : List ℕ → ℕ → Read → Type 0
 BodyRead s at (Ends e) = (at < length s) × (getD s at 0 ≤ lastProposition) × (at + 1 ≡ e)
 BodyRead s at (Refused x) = Fails s at body x
 
+abbrev pub CountsRead : List ℕ → ℕ → Read → Type 0
+CountsRead s at (Ends e) = (at + 1 < length s) × CountsFit (getD s at 0) (getD s (at + 1) 0) × (at + 2 ≡ e)
+CountsRead s at (Refused x) = Fails s at counts x
+
 abbrev pub FormulaRead : List ℕ → ℕ → Read → Type 0
 FormulaRead s at (Ends e) = (f : Formula) × FormulaAt s at f e
 FormulaRead s at (Refused x) = Fails s at formula x
@@ -45,6 +51,11 @@ RuleRead s at (Refused x) = Fails s at rule x
 abbrev pub endOf : Read → ℕ
 endOf (Ends e) = e
 endOf (Refused x) = 0
+
+-- the counts after the kind byte at `at`
+pub record CountsAs (s : List ℕ) (at : ℕ) (c : Counts) : Type 0 where
+  pub low : c .low ≡ getD s (at + 1) 0
+  pub high : c .high ≡ getD s (at + 2) 0
 
 -- the set of the propositions that the formula names, and the end
 abbrev pub NamesAs : List ℕ → ℕ → Names → Type 0

@@ -1,8 +1,8 @@
 -- The weight of a rule: how many states its table has. Assumes nothing: these are definitions.
-use Prim.Native.Nat.{ℕ, _+_, _*_}
+use Prim.Native.Nat.{ℕ, zero, suc, _+_, _*_}
 use Rattle.rules.specs.declared.kinds.Pair.{Pair}
 use Rattle.rules.specs.declared.kinds.Pair.the-variants.{Then, Overlap, Either, Within, Both}
-use Rattle.rules.specs.Definition1.{Rule, letter, empty, two, again}
+use Rattle.rules.specs.Definition1.{Rule, letter, empty, two, again, counted, occurs}
 
 -- the largest weight that is accepted
 abbrev pub weightLimit : ℕ
@@ -20,8 +20,15 @@ pairWeight Either m n = 1 + m + n
 pairWeight Within m n = 2 * (m * n) + 2 * m + 2 * n + 1
 pairWeight Both m n = m * n
 
+-- of up to j parts in a row, each of which weighs m: j times that, or 1
+abbrev pub rowWeight : ℕ → ℕ → ℕ
+rowWeight zero m = 1
+rowWeight (suc j) m = suc j * m
+
 abbrev pub weightOf : Rule → ℕ
 weightOf (letter f) = 2
 weightOf empty = 1
 weightOf (two p a b) = pairWeight p (weightOf a) (weightOf b)
 weightOf (again p a) = weightOf a
+weightOf (counted i j a) = rowWeight j (weightOf a)
+weightOf (occurs i j f) = j + 2

@@ -1,8 +1,9 @@
 // Reading in prefix order: where the formula or the rule that begins at a place ends, or its first fault.
 ghost use Rattle.rules.specs.Places.{GoodFormula, GoodRule, FormulaEnds, RuleEnds};
 ghost use mathlib.Core.Path.{_≡_};
-ghost use Rattle.rules.specs.Walks.{endOf, BodyRead, FormulaRead, RuleRead};
+ghost use Rattle.rules.specs.Walks.{endOf, BodyRead, CountsRead, FormulaRead, RuleRead};
 use crate::Refusal;
+use crate::counts::counts_fit;
 use crate::kinds::FormulaKind;
 use crate::kinds::Kind;
 use crate::kinds::RuleKind;
@@ -27,6 +28,24 @@ fn body_end(rule: &[u8], at: usize) -> Read
         Read::Ends(at + 1)
     } else {
         Read::Refused(Refusal::NoProposition(at))
+    }
+}
+
+// Two counts: the first is at most the second, and that at most the largest. Both are there before either is looked at.
+fn counts_end(rule: &[u8], at: usize) -> Read
+    ensures { λ r. ⌜ CountsRead (now (rule .entry)) at r ⌝ }
+{
+    if rule.len() <= at {
+        return Read::Refused(Refusal::Ended(at));
+    }
+    let second = at + 1;
+    if rule.len() <= second {
+        return Read::Refused(Refusal::Ended(second));
+    }
+    if counts_fit(rule[at], rule[second]) {
+        Read::Ends(at + 2)
+    } else {
+        Read::Refused(Refusal::BadCounts(at))
     }
 }
 
@@ -70,6 +89,14 @@ pub fn rule_end(rule: &[u8], at: usize) -> Read
             RuleKind::Two(_) => match rule_end(rule, at + 1) {
                 Read::Refused(x) => Read::Refused(x),
                 Read::Ends(m) => rule_end(rule, m),
+            },
+            RuleKind::Counted => match counts_end(rule, at + 1) {
+                Read::Refused(x) => Read::Refused(x),
+                Read::Ends(m) => rule_end(rule, m),
+            },
+            RuleKind::Occurs => match counts_end(rule, at + 1) {
+                Read::Refused(x) => Read::Refused(x),
+                Read::Ends(m) => formula_end(rule, m),
             },
         },
     }

@@ -31,11 +31,14 @@ pub enum Repeat {
     Plus,
 }
 
+// Beside these: `[*i..j]` and `[=i..j]`, whose two counts follow the kind byte.
 pub enum RuleKind {
     Letter,
     Empty,
     Two(Pair),
     Again(Repeat),
+    Counted,
+    Occurs,
 }
 
 pub enum Kind {
@@ -64,6 +67,8 @@ pub fn kind_of(byte: u8) -> Kind
         0x16 => Kind::OfRule(RuleKind::Two(Pair::Both)),
         0x17 => Kind::OfRule(RuleKind::Again(Repeat::Star)),
         0x18 => Kind::OfRule(RuleKind::Again(Repeat::Plus)),
+        0x19 => Kind::OfRule(RuleKind::Counted),
+        0x1A => Kind::OfRule(RuleKind::Occurs),
         _ => Kind::Unknown,
     }
 }

@@ -4,6 +4,7 @@ ghost use Rattle.rules.specs.Refusals.{number, place};
 ghost use Rattle.rules.specs.Answer.{told, answer};
 
 pub mod kinds; // what a kind byte says
+pub mod counts; // the two counts after a kind byte
 pub mod ends; // where a formula or a rule that begins at a place ends, or its first fault
 pub mod names; // which propositions a formula names
 pub mod weights; // how many states a rule's table has, and which propositions the rule names
@@ -17,7 +18,7 @@ const LONGEST_RULE: usize = 255;
 
 const WEIGHT_LIMIT: usize = 64;
 
-// Why a rule is refused; the variants stand in the order of their numbers, 1 to 7, and hold their places.
+// Why a rule is refused; the variants stand in the order of their numbers, 1 to 8, and hold their places.
 pub enum Refusal {
     TooLong,
     Ended(usize),
@@ -26,6 +27,7 @@ pub enum Refusal {
     NoProposition(usize),
     Leftover(usize),
     TooHeavy,
+    BadCounts(usize),
 }
 
 impl Refusal {
@@ -41,6 +43,7 @@ impl Refusal {
             Refusal::NoProposition(_) => 5,
             Refusal::Leftover(_) => 6,
             Refusal::TooHeavy => 7,
+            Refusal::BadCounts(_) => 8,
         }
     }
 
@@ -56,6 +59,7 @@ impl Refusal {
             Refusal::NoProposition(p) => p,
             Refusal::Leftover(p) => p,
             Refusal::TooHeavy => 0,
+            Refusal::BadCounts(p) => p,
         }
     }
 }

@@ -2,9 +2,11 @@
 // propositions that it names.
 ghost use mathlib.Core.Path.{_≡_};
 ghost use Prim.Native.Nat.{_≤_, min};
+ghost use Rattle.rules.specs.Encoding.{largestCount};
 ghost use Rattle.rules.specs.Places.{GoodRule};
-ghost use Rattle.rules.specs.Weight.{pairWeight, countedTo};
+ghost use Rattle.rules.specs.Weight.{pairWeight, rowWeight, countedTo};
 ghost use Rattle.rules.specs.Walks.{WeighedAs};
+use crate::counts::counts_at;
 use crate::kinds::Kind;
 use crate::kinds::Pair;
 use crate::kinds::RuleKind;
@@ -41,6 +43,14 @@ fn weight_of_pair(p: Pair, m: usize, n: usize) -> usize
         Pair::Within => capped(2 * (m * n) + 2 * m + 2 * n + 1),
         Pair::Both => capped(m * n),
     }
+}
+
+// Up to `count` parts in a row: none of the operand is built where none is asked for, whatever it weighs.
+fn weight_of_row(count: usize, m: usize) -> usize
+    requires { ⌜ (count ≤ largestCount) × (m ≤ countedTo) ⌝ }
+    ensures { λ r. ⌜ r ≡ min countedTo (rowWeight count m) ⌝ }
+{
+    if count == 0 { 1 } else { capped(count * m) }
 }
 
 // Weighs the rule that stands at `at` and finds what it names, in one walk.
@@ -82,6 +92,24 @@ pub fn weight_at(rule: &[u8], at: usize) -> Weighed
                     weight: weight_of_pair(p, a.weight, b.weight),
                     uses: a.uses | b.uses,
                     end: b.end,
+                }
+            }
+            RuleKind::Counted => {
+                let c = counts_at(rule, at);
+                let a = weight_at(rule, at + 3);
+                Weighed {
+                    weight: weight_of_row(c.high, a.weight),
+                    uses: a.uses,
+                    end: a.end,
+                }
+            }
+            RuleKind::Occurs => {
+                let c = counts_at(rule, at);
+                let f = names_at(rule, at + 3);
+                Weighed {
+                    weight: c.high + 2,
+                    uses: f.uses,
+                    end: f.end,
                 }
             }
         },

@@ -13,3 +13,6 @@ pub mod Linking
 pub mod Overlapping
 pub mod Pairing
 pub mod FinalSets
+pub mod RowEnds
+pub mod Rowing
+pub mod Tallies

@@ -4,4 +4,6 @@ pub mod Overlaps
 pub mod Eithers
 pub mod Boths
 pub mod Repetitions
+pub mod Rows
+pub mod Occurrences
 pub mod Language

@@ -1,13 +1,13 @@
 -- The automaton of a rule, operator by operator: which letters lead from p to q, and which states are final. The operand A has m states, B has n.
 -- Assumes nothing: these are definitions.
-use Prim.Native.Nat.{ℕ, _+_, _*_}
+use Prim.Native.Nat.{ℕ, zero, suc, _+_, _*_, _-_, _<_, _≤_}
 use mathlib.Core.Path.{_≡_}
 use mathlib.Core.Logic.{_⊎_}
-use mathlib.Core.Bool.{Bool}
+use mathlib.Core.Bool.{Bool, not}
 use lib.Dec.{T}
 use Rattle.rules.specs.declared.kinds.Pair.the-variants.{Then, Overlap, Either, Within, Both}
 use Rattle.rules.specs.declared.kinds.Repeat.the-variants.{Star, Plus}
-use Rattle.rules.specs.Definition1.{Rule, letter, empty, two, again, yea}
+use Rattle.rules.specs.Definition1.{Rule, letter, empty, two, again, counted, occurs, yea}
 use Rattle.rules.specs.Definition2.{holds}
 use Rattle.tables.specs.Auto.{Auto}
 
@@ -92,6 +92,37 @@ optA A = record { size = A .size; step = A .step; final = λ q. A .final q ⊎ (
 abbrev pub starA : Auto → Auto
 starA A = optA (plusA A)
 
+-- `[*i..j]` (j·m, or 1 if j is 0): j copies of A, one behind the other as in `;`, with i parts needed of the first, i-1 of what is behind it, and so on.
+-- Where no part is needed, the first state of what is left is final too. No copy at all is one state.
+abbrev pub maybeA : ℕ → Auto → Auto
+maybeA i C = record { size = C .size; step = C .step; final = λ q. C .final q ⊎ ((q ≡ 0) × (i ≡ 0)) }
+
+abbrev pub noneA : ℕ → Auto
+noneA i = record { size = 1; step = λ p x q. ⊥; final = λ q. (q ≡ 0) × (i ≡ 0) }
+
+abbrev pub lastA : ℕ → Auto → Auto
+lastA i A = record { size = A .size; step = A .step; final = λ q. A .final q × (i ≤ 1) }
+
+abbrev pub rowA : ℕ → ℕ → Auto → Auto
+rowA i zero A = noneA i
+rowA i (suc zero) A = maybeA i (lastA i A)
+rowA i (suc (suc j)) A = maybeA i (thenA A (rowA (i - 1) (suc j) A))
+
+-- `[=i..j]` (j+2): 0 before the first letter, 1+c after letters of which c satisfied f; from 0 it goes where it goes from 1.
+pub data Satisfied (c p : ℕ) : Type 0 where
+  at-first : p ≡ 0 → c ≡ 0 → Satisfied c p
+  so-far : p ≡ 1 + c → Satisfied c p
+
+pub data OccursStep (f : ℕ → Bool) (j p x q : ℕ) : Type 0 where
+  stays : (c : ℕ) → Satisfied c p → c ≤ j → T (not (f x)) → q ≡ 1 + c → OccursStep f j p x q
+  rises : (c : ℕ) → Satisfied c p → c < j → T (f x) → q ≡ 2 + c → OccursStep f j p x q
+
+pub data OccursFinal (i j q : ℕ) : Type 0 where
+  enough : (c : ℕ) → Satisfied c q → i ≤ c → c ≤ j → OccursFinal i j q
+
+abbrev pub occursA : ℕ → ℕ → (ℕ → Bool) → Auto
+occursA i j f = record { size = j + 2; step = OccursStep f j; final = OccursFinal i j }
+
 -- `&` is the automaton of {a && {b;true[*]}} | {{a;true[*]} && b}; true[*] has two states.
 abbrev pub anyA : Auto
 anyA = starA (letterA (holds yea))
@@ -109,3 +140,5 @@ auto (two Within a b) = withinA (auto a) (auto b)
 auto (two Both a b) = bothA (auto a) (auto b)
 auto (again Star a) = starA (auto a)
 auto (again Plus a) = plusA (auto a)
+auto (counted i j a) = rowA i j (auto a)
+auto (occurs i j f) = occursA i j (holds f)

@@ -13,12 +13,17 @@ use crate::link::again;
 use crate::link::then;
 use crate::overlap::overlap;
 use crate::product::both;
+use crate::row::row;
 use crate::shape::LETTER_FINALS;
 use crate::shape::Shape;
 use crate::shape::again_shape;
+use crate::shape::occurs_shape;
 use crate::shape::pair_shape;
+use crate::shape::row_shape;
 use crate::shape::shape_at;
+use crate::tally::tally;
 use crate::within::within;
+use rules::counts::counts_at;
 use rules::formulas::label_and_end;
 use rules::kinds::Kind;
 use rules::kinds::Pair;
@@ -107,6 +112,21 @@ pub fn build_at(rule: &[u8], at: usize, t: &mut [u64], base: usize) -> Shape
                 let b = build_at(rule, second, t, lo + a.weight);
                 join(t, base, p, a, b);
                 pair_shape(p, a, b)
+            }
+            RuleKind::Counted => {
+                let c = counts_at(rule, at);
+                if c.high == 0 {
+                    return shape_at(rule, at);
+                }
+                let a = build_at(rule, at + 3, t, base);
+                row(t, base, a, c);
+                row_shape(a, c)
+            }
+            RuleKind::Occurs => {
+                let c = counts_at(rule, at);
+                let f = label_and_end(rule, at + 3);
+                tally(t, base, c.high, f.label);
+                occurs_shape(c, f.end)
             }
         },
     }

@@ -20,6 +20,8 @@ mod choice; // `|`
 mod product; // `&&`
 mod any; // `true[*]`, for `&`
 mod within; // `&`
+mod row; // `[*i..j]`
+mod tally; // `[=i..j]`
 mod finals; // sets of final states
 mod shape; // where a rule ends, its weight and its finals
 mod fill; // the labels of a rule, in place

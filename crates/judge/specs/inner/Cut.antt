@@ -1,16 +1,18 @@
 -- Definition 2 for one part, from i to e, over the answers a and b of the operands: a line for each operator. Assumes nothing: these are definitions.
-use Prim.Native.Nat.{ℕ, _+_, _≤_, _<_}
+use Prim.Native.Nat.{ℕ, _+_, _-_, _≤_, _<_}
 use mathlib.Core.Path.{_≡_}
 use mathlib.Core.Logic.{_⊎_}
 use mathlib.Core.Bool.{true}
 use mathlib.Core.List.{List}
 use lib.ListN.{length, getD}
+use Rattle.bits.specs.Word.{num, many}
+use Rattle.rules.specs.declared.counts.Counts.{Counts}
 use Rattle.rules.specs.declared.kinds.Pair.{Pair}
 use Rattle.rules.specs.declared.kinds.Pair.the-variants.{Then, Overlap, Either, Within, Both}
 use Rattle.rules.specs.Definition1.{Formula}
 use Rattle.rules.specs.Definition2.{holds}
 use Rattle.judge.specs.declared.cuts.Operator.{Operator}
-use Rattle.judge.specs.declared.cuts.Operator.the-variants.{Two, Star}
+use Rattle.judge.specs.declared.cuts.Operator.the-variants.{Two, Star, Occurs}
 use Rattle.judge.specs.Parts.{yes, Filled}
 
 -- the part is the one letter of w at i, and f holds in it
@@ -67,10 +69,24 @@ pub record StepAt (a rest : List ℕ) (i e : ℕ) : Type 0 where
 abbrev pub StarAt : List ℕ → List ℕ → ℕ → ℕ → Type 0
 StarAt a rest i e = (i ≡ e) ⊎ StepAt a rest i e
 
+-- how many letters from i up to, not including, e are accepted alone
+abbrev pub lettersAt : List ℕ → ℕ → ℕ → ℕ
+lettersAt a i e = many (e - i) (λ k. yes a (i + k) (i + k + 1))
+
+-- r is n, and one more where the letter at k is accepted
+pub record CountedOn (a : List ℕ) (k n r : ℕ) : Type 0 where
+  pub is : r ≡ num (yes a k (k + 1)) + n
+
+-- `[=i..j]`; a accepts the letters that satisfy the formula
+pub record OccursAt (c : Counts) (a : List ℕ) (i e : ℕ) : Type 0 where
+  pub low : c .low ≤ lettersAt a i e
+  pub high : lettersAt a i e ≤ c .high
+
 -- one cell of an operator's answers
 abbrev pub CellAt : Operator → List ℕ → List ℕ → ℕ → ℕ → Type 0
 CellAt (Two p) a b i e = PairAt p a b i e
 CellAt Star a b i e = StarAt a b i e
+CellAt (Occurs c) a b i e = OccursAt c a i e
 
 -- `[+]`: a first part, and a rest that `[*]` accepts
 pub record PlusOf (a r : List ℕ) : Type 0 where

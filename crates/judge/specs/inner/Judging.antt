@@ -3,11 +3,12 @@ use Prim.Native.Nat.{ℕ}
 use mathlib.Core.Bool.{Bool}
 use mathlib.Core.List.{List}
 use Rattle.bits.specs.Says.{Says}
+use Rattle.rules.specs.declared.counts.Counts.{Counts}
 use Rattle.rules.specs.declared.kinds.Repeat.{Repeat}
-use Rattle.rules.specs.Definition1.{Formula, Rule, again}
+use Rattle.rules.specs.Definition1.{Formula, Rule, again, counted}
 use Rattle.rules.specs.Definition2.{Sat}
 use Rattle.rules.specs.Places.{FormulaAt, RuleAt}
-use Rattle.judge.specs.Parts.{Judged, RowOf, Filled}
+use Rattle.judge.specs.Parts.{Few, Judged, RowOf, Filled}
 use Rattle.judge.specs.inner.Cut.{LetterAt}
 
 -- which parts of w, of those that begin at i and of all, are one letter of which the formula holds
@@ -23,6 +24,10 @@ JudgedAt s at w a = (r : Rule) (e : ℕ) → RuleAt s at r e → Judged (Sat r) 
 
 abbrev pub RepeatedAt : Repeat → List ℕ → ℕ → List ℕ → List ℕ → Type 0
 RepeatedAt p s at w a = (r : Rule) (e : ℕ) → RuleAt s at r e → Judged (Sat (again p r)) w a
+
+-- where a says which parts of a sequence some rule accepts, r says which are counted parts of it in a row
+pub record InRow (a : List ℕ) (c : Counts) (r : List ℕ) : Type 0 where
+  pub rowed : (x : Rule) (w : List ℕ) → Few w → Judged (Sat x) w a → Judged (Sat (counted (c .low) (c .high) x)) w r
 
 -- whether the rule that the bytes begin with accepts w
 abbrev pub AcceptsAs : List ℕ → List ℕ → Bool → Type 0

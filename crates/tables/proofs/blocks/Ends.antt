@@ -25,7 +25,7 @@ use Rattle.tables.proofs.promise.Serving.{final-inside}
 use Rattle.tables.specs.Table.{tableStates}
 
 -- a set with k added
-has-insert : (w k q : ℕ) → Has (insert w k) q ↔ (Has w q ⊎ (q ≡ k))
+pub has-insert : (w k q : ℕ) → Has (insert w k) q ↔ (Has w q ⊎ (q ≡ k))
 has-insert w k q = let e = or-T (bit w q) (eqb q k) in rw (bit-insert w k q) (λ t. ⊎-map (λ h. h) (eqb→eq q k) (e .0 t), λ h. e .1 (⊎-map (λ h. h) here h))
   where
     here : q ≡ k → T (eqb q k)

@@ -2,16 +2,16 @@
 use Prim.Native.Nat.{ℕ, _+_, _*_}
 use native.Mathlib.Nat.{mul-add, add-mul, mul-comm}
 use native.Mathlib.Omega.{arith}
-use mathlib.Core.Path.{_≡_, refl, ap₂, _∙_}
+use mathlib.Core.Path.{_≡_, refl, ap, ap₂, _∙_}
 use mathlib.Core.Logic.{_⊎_, ⊎-map, _↔_}
 use mathlib.Core.Bool.{Bool}
 use mathlib.Core.List.{List, [], _∷_, cons≢nil}
 use Rattle.rules.specs.declared.kinds.Pair.the-variants.{Then, Overlap, Either, Within, Both}
 use Rattle.rules.specs.declared.kinds.Repeat.the-variants.{Star, Plus}
-use Rattle.rules.specs.Definition1.{Rule, letter, empty, two, again, yea}
+use Rattle.rules.specs.Definition1.{Rule, letter, empty, two, again, counted, occurs, yea}
 use Rattle.rules.specs.Definition2.{holds, Sat, OneLetter, Begins, Repeats, none, more}
-use Rattle.rules.specs.Weight.{weightOf}
-use Rattle.rules.proofs.Maps.{map-parts, map-overlaps, map-repeats, map-begins}
+use Rattle.rules.specs.Weight.{weightOf, rowWeight}
+use Rattle.rules.proofs.Maps.{map-parts, map-overlaps, map-repeats, map-begins, map-counted}
 use Rattle.tables.specs.Auto.{Auto, Takes}
 use Rattle.tables.specs.Build.{auto, emptyA, letterA, the-label, thenA, bothA, anyA, withinA}
 use Rattle.tables.proofs.language.Lang.{Acc, takes-acc, Good, good-empty, good-letter}
@@ -20,6 +20,8 @@ use Rattle.tables.proofs.language.Overlaps.{good-overlap, overlap-lang}
 use Rattle.tables.proofs.language.Eithers.{good-either, either-lang}
 use Rattle.tables.proofs.language.Boths.{good-both, both-lang}
 use Rattle.tables.proofs.language.Repetitions.{good-plus, plus-lang, good-star, star-lang}
+use Rattle.tables.proofs.language.Rows.{good-row, row-size, row-lang}
+use Rattle.tables.proofs.language.Occurrences.{good-occurs, occurs-lang}
 
 empty-lang : (w : List ℕ) → Acc emptyA 0 w ↔ (w ≡ [])
 empty-lang [] = (λ a. refl, λ e. refl)
@@ -94,6 +96,8 @@ good (two Within a b) = good-within (auto a) (auto b) (good a) (good b)
 good (two Both a b) = good-both (auto a) (auto b) (good a) (good b)
 good (again Star a) = good-star (auto a) (good a)
 good (again Plus a) = good-plus (auto a) (good a)
+good (counted i j a) = good-row (auto a) (good a) i j
+good (occurs i j f) = good-occurs i j (holds f)
 
 -- what a state of an operand accepts, what Definition 2 accepts
 abbrev Lang : Rule → List ℕ → Type 0
@@ -115,6 +119,8 @@ sound (two Both a b) w h = let t = both-lang (auto a) (auto b) (good a) (good b)
 sound (again Star a) w h = map-repeats (Lang a) (Sat a) (sound a) w (star-lang (auto a) (good a) w .0 h)
 sound (again Plus a) w h =
     map-parts (Lang a) (Sat a) (Repeats (Lang a)) (Repeats (Sat a)) (sound a) (map-repeats (Lang a) (Sat a) (sound a)) w (plus-lang (auto a) (good a) w .0 h)
+sound (counted i j a) w h = map-counted (Lang a) (Sat a) (sound a) i j w (row-lang (auto a) (good a) i j w .0 h)
+sound (occurs i j f) w h = occurs-lang i j (holds f) w .0 h
 
 pub complete : (r : Rule) (w : List ℕ) → Sat r w → Acc (auto r) 0 w
 unfolding auto Sat
@@ -132,6 +138,8 @@ complete (two Both a b) w h = both-lang (auto a) (auto b) (good a) (good b) w .1
 complete (again Star a) w h = star-lang (auto a) (good a) w .1 (map-repeats (Sat a) (Lang a) (complete a) w h)
 complete (again Plus a) w h =
     plus-lang (auto a) (good a) w .1 (map-parts (Sat a) (Lang a) (Repeats (Sat a)) (Repeats (Lang a)) (complete a) (map-repeats (Sat a) (Lang a) (complete a)) w h)
+complete (counted i j a) w h = row-lang (auto a) (good a) i j w .1 (map-counted (Sat a) (Lang a) (complete a) i j w h)
+complete (occurs i j f) w h = occurs-lang i j (holds f) w .1 h
 
 -- the automaton of a rule accepts exactly what Definition 2 says
 pub accepts-sat : (r : Rule) (w : List ℕ) → Takes (auto r) w ↔ Sat r w
@@ -153,3 +161,5 @@ size-weight (two Within a b) = ap₂ (λ (m n : ℕ). 1 + m * (n + 2) + (m + 2) 
 size-weight (two Both a b) = ap₂ (λ (m n : ℕ). m * n) (size-weight a) (size-weight b)
 size-weight (again Star a) = size-weight a
 size-weight (again Plus a) = size-weight a
+size-weight (counted i j a) = row-size (auto a) (good a) i j ∙ ap (rowWeight j) (size-weight a)
+size-weight (occurs i j f) = refl

@@ -6,16 +6,18 @@ use mathlib.Core.List.{List}
 use lib.ListN.{length, getD}
 use Rattle.rules.specs.declared.kinds.Pair.{Pair}
 use Rattle.rules.specs.declared.kinds.Repeat.{Repeat}
-use Rattle.rules.specs.declared.kinds.RuleKind.the-variants.{Letter, Empty, Two, Again}
+use Rattle.rules.specs.declared.kinds.RuleKind.the-variants.{Letter, Empty, Two, Again, Counted, Occurs}
 use Rattle.rules.specs.declared.kinds.Kind.the-variants.{OfRule}
-use Rattle.rules.specs.Definition1.{Rule, two}
+use Rattle.rules.specs.Definition1.{Rule, two, counted, occurs}
 use Rattle.rules.specs.Kinds.{kindOf}
 use Rattle.rules.specs.Places.{RuleAt}
 use Rattle.rules.specs.declared.formulas.Labelled.{Labelled}
-use Rattle.rules.specs.Walks.{LabelledAs}
+use Rattle.rules.specs.declared.counts.Counts.{Counts}
+use Rattle.rules.specs.Walks.{CountsAs, LabelledAs}
 use Rattle.rules.specs.Weight.{weightOf, pairWeight, weightLimit}
 use Rattle.rules.proofs.Scan.{rule-ends}
 use Rattle.rules.proofs.PlacesOnce.{rule-of, rule-once}
+use Rattle.rules.proofs.Walks.{told-counts}
 use Rattle.rules.proofs.Weighing.{weight-pos}
 use Rattle.tables.specs.declared.shape.Shape.{Shape}
 use Rattle.tables.specs.declared.fill.Place.{Place}
@@ -24,10 +26,11 @@ use Rattle.tables.specs.Table.{tableStates, tableEntries}
 use Rattle.tables.specs.inner.Cells.{Put, Clean}
 use Rattle.tables.specs.inner.Block.{Built, Beside}
 use Rattle.tables.specs.inner.Shapes.{Fits, ShapeOf, ShapedAs}
-use Rattle.tables.specs.inner.Building.{Ready, BuiltAt, Room, Joins, Repeats, Placed, PlacedAt, nowhere, from, operandsFrom}
+use Rattle.tables.specs.inner.Building.{Ready, BuiltAt, Room, Joins, Repeats, RowOf, TallyOf, Placed, PlacedAt, nowhere, from, operandsFrom}
 use Rattle.tables.proofs.walk.Shaping.{pair-weights}
 use Rattle.tables.proofs.blocks.Places.{beside, built-at, clean-on}
 use Rattle.tables.proofs.blocks.Singles.{empty-built, letter-built}
+use Rattle.tables.proofs.blocks.Rowing.{none-built}
 
 pub ready-on : (t t₁ : List ℕ) (base mid : ℕ) (r : Rule) → Ready t base → length t₁ ≡ length t → Built t t₁ base r → base + weightOf r ≤ mid → Ready t₁ mid
 ready-on t t₁ base mid r y e b l = record { long = omega (arith, y .long); clean = clean-on t t₁ base mid r (y .clean) b l }
@@ -76,6 +79,31 @@ module _ (s : List ℕ) (at base : ℕ) (g : Fits s at base) where
   again-step p q h u t t₁ t₂ k r = record {
     built = λ x z d. let i = rule-of s (OfRule (Again p)) d q in rw (i .1) (r .repeated t p (i .0) z (u .told (i .0) z (i .2)) (k .built (i .0) z (i .2)));
   }
+
+  -- counted parts: none of them allowed, and some; counted letters
+  module _ (c : Counts) (h : CountsAs s at c) where
+    pub none-done : kindOf (getD s at 0) ≡ OfRule Counted → c .high ≡ 0 → (t : List ℕ) → Ready t base → BuiltAt s at t t base
+    none-done q z t y = record {
+      built = λ x e d.
+          let i = rule-of s (OfRule Counted) d q in
+          rw (told-counts s at c h counted (i .0) x (i .1)) (none-built t base (c .low) (c .high) (i .0) z (y .clean) (omega (arith, base-small)));
+    }
+
+    pub counted-step : kindOf (getD s at 0) ≡ OfRule Counted → (k : Shape) → ShapedAs s (at + 3) k → (t t₁ t₂ : List ℕ) → Ready t base
+        → BuiltAt s (at + 3) t t₁ base → RowOf k c t₁ t₂ base → BuiltAt s at t t₂ base
+    counted-step q k u t t₁ t₂ y b r = record {
+      built = λ x e d.
+          let i = rule-of s (OfRule Counted) d q in
+          rw (told-counts s at c h counted (i .0) x (i .1)) (r .rowed t (i .0) e (y .clean) (u .told (i .0) e (i .3)) (b .built (i .0) e (i .3)));
+    }
+
+    pub occurs-done : kindOf (getD s at 0) ≡ OfRule Occurs → (l : Labelled) → LabelledAs s (at + 3) l → (t t₁ : List ℕ) → Ready t base
+        → TallyOf (l .label) (c .high) t t₁ base → BuiltAt s at t t₁ base
+    occurs-done q l is t t₁ y b = record {
+      built = λ x e d.
+          let i = rule-of s (OfRule Occurs) d q in
+          rw (told-counts s at c h occurs (i .0) x (i .1)) (b .tally (c .low) (i .0) (y .clean) (is (i .0) e (i .3) .0));
+    }
 
 -- ---- an operator that stands at a place
 

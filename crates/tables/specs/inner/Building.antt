@@ -6,7 +6,10 @@ use lib.ListN.{length}
 use Rattle.rules.specs.declared.kinds.Pair.{Pair}
 use Rattle.rules.specs.declared.kinds.Pair.the-variants.{Then, Overlap, Either, Within, Both}
 use Rattle.rules.specs.declared.kinds.Repeat.{Repeat}
-use Rattle.rules.specs.Definition1.{Rule, two, again}
+use Rattle.bits.specs.Word.{word}
+use Rattle.rules.specs.declared.counts.Counts.{Counts}
+use Rattle.rules.specs.Definition1.{Rule, Formula, two, again, counted, occurs}
+use Rattle.rules.specs.Definition2.{letterCount, holds}
 use Rattle.rules.specs.Places.{RuleAt}
 use Rattle.rules.specs.Weight.{weightOf, pairWeight, weightLimit}
 use Rattle.tables.specs.declared.shape.Shape.{Shape}
@@ -50,6 +53,23 @@ pub record Joins (p : Pair) (a b : Shape) (t t′ : List ℕ) (base : ℕ) : Typ
 -- where t has the block of a rule of this shape, t′ has that of either repetition
 pub record Repeats (a : Shape) (t t′ : List ℕ) (base : ℕ) : Type 0 where
   pub repeated : (t₀ : List ℕ) (p : Repeat) (x : Rule) (e : ℕ) → ShapeOf x e a → Built t₀ t base x → Built t₀ t′ base (again p x)
+
+-- there is room for as many parts of this shape, which is a rule's, in a row as are counted
+pub record RowRoom (a : Shape) (c : Counts) (base : ℕ) : Type 0 where
+  pub part : Rule
+  pub past : ℕ
+  pub shaped : ShapeOf part past a
+  pub one : 1 ≤ c .high
+  pub rising : c .low ≤ c .high
+  pub square : base + c .high * a .weight ≤ weightLimit
+
+-- where t has the block of a rule of this shape, t′ has that of the counted parts in a row
+pub record RowOf (a : Shape) (c : Counts) (t t′ : List ℕ) (base : ℕ) : Type 0 where
+  pub rowed : (t₀ : List ℕ) (x : Rule) (e : ℕ) → Clean t₀ base → ShapeOf x e a → Built t₀ t base x → Built t₀ t′ base (counted (c .low) (c .high) x)
+
+-- t′ has the block of the counted letters; label is the formula's
+pub record TallyOf (label j : ℕ) (t t′ : List ℕ) (base : ℕ) : Type 0 where
+  pub tally : (i : ℕ) (f : Formula) → Clean t base → label ≡ word letterCount (holds f) → Built t t′ base (occurs i j f)
 
 -- where the operands are wanted: in the operator's square, or nowhere, since it has no label
 pub data Placed (p : Pair) (base m n : ℕ) : Place → Type 0 where

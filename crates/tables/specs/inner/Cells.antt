@@ -4,7 +4,7 @@ use mathlib.Core.Path.{_≡_}
 use mathlib.Core.List.{List}
 use Prim.Native.Nat.{ℕ, suc, zero, _+_, _-_, _/_, _%_, _<_, _≤_}
 use lib.Bits.{bitOr, bitAnd}
-use lib.Dec.{ltb}
+use lib.Dec.{eqb, ltb}
 use Rattle.bits.specs.Word.{bit}
 use Rattle.tables.specs.Table.{tableStates, cell}
 
@@ -49,3 +49,7 @@ moved t from to p q = cell t (from + (p - to)) (from + (q - to))
 -- the label of a pair, numbered from base on: of t's block at 0 and of its block at second, which has n states
 unfoldable pub paired : List ℕ → ℕ → ℕ → ℕ → ℕ → ℕ → ℕ
 paired t base n second p q = bitAnd (cell t ((p - base) / n) ((q - base) / n)) (cell t (second + (p - base) % n) (second + (q - base) % n))
+
+-- from p to itself by one label, to the next state by another
+unfoldable pub tallied : List ℕ → ℕ → ℕ → ℕ → ℕ → ℕ
+tallied t hit miss p q = cond (eqb q p) miss (cond (eqb q (p + 1)) hit (cell t p q))

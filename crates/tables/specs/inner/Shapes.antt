@@ -7,6 +7,7 @@ use Rattle.rules.specs.Places.{RuleAt}
 use Rattle.rules.specs.Weight.{weightOf, weightLimit}
 use Rattle.tables.specs.declared.shape.Shape.{Shape}
 use Rattle.tables.specs.inner.Block.{FinalsAt}
+use Rattle.tables.specs.inner.Sets.{MaybeFirst}
 
 -- a rule stands at the place, and its table has room from base on
 pub record Fits (s : List ℕ) (at base : ℕ) : Type 0 where
@@ -24,3 +25,9 @@ pub record ShapeOf (r : Rule) (e : ℕ) (h : Shape) : Type 0 where
 -- the shape of whatever rule stands at the place
 pub record ShapedAs (s : List ℕ) (at : ℕ) (h : Shape) : Type 0 where
   pub told : (r : Rule) (e : ℕ) → RuleAt s at r e → ShapeOf r e h
+
+-- the shape of a, and its first state is final too where no part is needed
+pub record MaybeShape (i : ℕ) (a r : Shape) : Type 0 where
+  pub ends : r .end ≡ a .end
+  pub weighs : r .weight ≡ a .weight
+  pub final-set : MaybeFirst i (a .finals) (r .finals)

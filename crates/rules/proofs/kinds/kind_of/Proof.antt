@@ -68,9 +68,17 @@ returns-15 c = sym (ap kindOf (c .match .keys15))
 
 returns-16 : tie.Need-returns-16
 unfolding kindOf
-returns-16 c =
+returns-16 c = sym (ap kindOf (c .match .keys16))
+
+returns-17 : tie.Need-returns-17
+unfolding kindOf
+returns-17 c = sym (ap kindOf (c .match .keys17))
+
+returns-18 : tie.Need-returns-18
+unfolding kindOf
+returns-18 c =
     let no = c .match .rest in
-    simp (ne-eqb _ _ (no .0 .0 .0 .0 .0 .0 .0 .0 .0 .0 .0 .0 .0 .0 .1), ne-eqb _ _ (no .0 .0 .0 .0 .0 .0 .0 .0 .0 .0 .0 .0 .0 .1), ne-eqb _ _ (no .0 .0 .0 .0 .0 .0 .0 .0 .0 .0 .0 .0 .1), ne-eqb _ _ (no .0 .0 .0 .0 .0 .0 .0 .0 .0 .0 .0 .1), ne-eqb _ _ (no .0 .0 .0 .0 .0 .0 .0 .0 .0 .0 .1), ne-eqb _ _ (no .0 .0 .0 .0 .0 .0 .0 .0 .0 .1), ne-eqb _ _ (no .0 .0 .0 .0 .0 .0 .0 .0 .1), ne-eqb _ _ (no .0 .0 .0 .0 .0 .0 .0 .1), ne-eqb _ _ (no .0 .0 .0 .0 .0 .0 .1), ne-eqb _ _ (no .0 .0 .0 .0 .0 .1), ne-eqb _ _ (no .0 .0 .0 .0 .1), ne-eqb _ _ (no .0 .0 .0 .1), ne-eqb _ _ (no .0 .0 .1), ne-eqb _ _ (no .0 .1), ne-eqb _ _ (no .1))
+    simp (ne-eqb _ _ (no .0 .0 .0 .0 .0 .0 .0 .0 .0 .0 .0 .0 .0 .0 .0 .0 .1), ne-eqb _ _ (no .0 .0 .0 .0 .0 .0 .0 .0 .0 .0 .0 .0 .0 .0 .0 .1), ne-eqb _ _ (no .0 .0 .0 .0 .0 .0 .0 .0 .0 .0 .0 .0 .0 .0 .1), ne-eqb _ _ (no .0 .0 .0 .0 .0 .0 .0 .0 .0 .0 .0 .0 .0 .1), ne-eqb _ _ (no .0 .0 .0 .0 .0 .0 .0 .0 .0 .0 .0 .0 .1), ne-eqb _ _ (no .0 .0 .0 .0 .0 .0 .0 .0 .0 .0 .0 .1), ne-eqb _ _ (no .0 .0 .0 .0 .0 .0 .0 .0 .0 .0 .1), ne-eqb _ _ (no .0 .0 .0 .0 .0 .0 .0 .0 .0 .1), ne-eqb _ _ (no .0 .0 .0 .0 .0 .0 .0 .0 .1), ne-eqb _ _ (no .0 .0 .0 .0 .0 .0 .0 .1), ne-eqb _ _ (no .0 .0 .0 .0 .0 .0 .1), ne-eqb _ _ (no .0 .0 .0 .0 .0 .1), ne-eqb _ _ (no .0 .0 .0 .0 .1), ne-eqb _ _ (no .0 .0 .0 .1), ne-eqb _ _ (no .0 .0 .1), ne-eqb _ _ (no .0 .1), ne-eqb _ _ (no .1))
 
 pub kind-of-spec : {M : Type 1} → statement M
-kind-of-spec = tie.close (tie.spec returns returns-2 returns-3 returns-4 returns-5 returns-6 returns-7 returns-8 returns-9 returns-10 returns-11 returns-12 returns-13 returns-14 returns-15 returns-16)
+kind-of-spec = tie.close (tie.spec returns returns-2 returns-3 returns-4 returns-5 returns-6 returns-7 returns-8 returns-9 returns-10 returns-11 returns-12 returns-13 returns-14 returns-15 returns-16 returns-17 returns-18)

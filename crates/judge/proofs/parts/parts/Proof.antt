@@ -1,19 +1,19 @@
--- `parts::pair_parts` meets its contract: the rows passed say what they are to say. Assumes nothing.
+-- `parts::parts` meets its contract: the rows passed say what they are to say. Assumes nothing.
 use mathlib.Core.Path.{refl}
 use Prim.Native.Nat.{_-_}
 use native.Mathlib.Omega.{arith}
 use borrow.Author.Needs.{needs}
 use Rattle.judge.specs.Parts.{side}
-use Rattle.judge.specs.inner.Cut.{PairAt}
+use Rattle.judge.specs.inner.Cut.{CellAt}
 use Rattle.judge.proofs.Rows.{RowsTo, rows-none, rows-one, rows-done}
-use Rattle.judge.proofs.parts.pair_parts.Statement.{statement}
-use Rattle.judge.proofs.parts.pair_parts.Tie as tie
+use Rattle.judge.proofs.parts.parts.Statement.{statement}
+use Rattle.judge.proofs.parts.parts.Tie as tie
 
 abbrev Inv-loop : tie.InvT-loop
-Inv-loop p a b out₀ i₀ out i = RowsTo (PairAt p a b) out i
+Inv-loop op a b out₀ i₀ out i = RowsTo (CellAt op a b) out i
 
 abbrev μ-loop : tie.MeasureT-loop
-μ-loop p a b out₀ i₀ out i = side - i
+μ-loop op a b out₀ i₀ out i = side - i
 
 loop-holds : tie.Need-loop-holds Inv-loop μ-loop
 loop-holds c = rows-none refl
@@ -39,8 +39,8 @@ loop-again c = rows-one (c .before .before .loop .inv) (omega arith) (c .row .en
 returns : tie.Need-returns Inv-loop μ-loop
 returns c = rows-done (omega arith) (c .before .loop .inv)
 
-pub pair-parts-spec : {M : Type 1} → statement M
-pair-parts-spec =
+pub parts-spec : {M : Type 1} → statement M
+parts-spec =
     tie.close
     (tie.spec
     Inv-loop
