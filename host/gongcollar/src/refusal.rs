@@ -80,6 +80,7 @@ refusals! {
     ShortSlice = 21: "a lent slice below 4,096 entries";
     EventLetter = 22: "an event's letter above 63";
     TooManyLetters = 23: "more than 16 letters to judge";
+    NoTable = 24: "no table of the stated weight and finals";
     TextTooLong = 30: "the text has more than 1,280 characters";
     NoText = 31: "no rule text has this character here";
     ShortOutput = 32: "the output is shorter than what would be written";

@@ -18,7 +18,8 @@
 //! | the automaton in the scope document's numbering | `table` | [`build`], [`Table`] |
 //! | the walker | `walk` | [`step`], [`follow`] |
 //! | bytes to models | `model` | [`read_model`], [`Model`] |
-//! | the search and its count | `search` | [`search()`], [`Searched`] |
+//! | the search and its count | `search` | [`search()`], [`search_trimmed`], [`Searched`] |
+//! | the trimmed table | `trim` | [`trim()`] |
 //! | what rulecheck prints | `line` | [`line()`] |
 //! | rules as text | `text` | [`read_text`], [`write_text`], [`Given`] |
 
@@ -38,6 +39,7 @@ mod search;
 mod set;
 mod table;
 mod text;
+mod trim;
 mod walk;
 
 pub use formula::Formula;
@@ -48,7 +50,8 @@ pub use model::{read_model, Model};
 pub use reader::{read_rule, ReadRule};
 pub use refusal::Refusal;
 pub use rule::Rule;
-pub use search::{search, Searched};
+pub use search::{search, search_trimmed, Searched};
 pub use table::{build, Table, TABLE_ENTRIES};
 pub use text::{read_text, write_text, Given};
+pub use trim::trim;
 pub use walk::{follow, step};
