@@ -6,9 +6,10 @@
  * leaves every lent slice, and a lent walker, as it was.
  *
  * Refusals: 1 to 7 a rule's, 11 to 16 a model's, 21 a lent slice has fewer than 4,096 entries, 22 a byte that is
- * no letter, 23 more than 16 letters for gc_judge, 25 a walker's count is at its largest, 30 a text has more than 1,280
- * characters, 31 no rule has the text, 32 the output is too short for what would be written. A table's label from p to
- * q stands at 64p+q; a set has bit q for state q.
+ * no letter, 23 more than 16 letters for gc_judge, 24 the slice holds no table of the weight and the finals that are
+ * stated, 25 a walker's count is at its largest, 30 a text has more than 1,280 characters, 31 no rule has the text, 32
+ * the output is too short for what would be written. A table's label from p to q stands at 64p+q; a set has bit q for
+ * state q.
  *
  * No call keeps anything between calls, takes memory or asks anything of the system. So calls may run in several
  * threads at once, as long as nothing that one of them writes is lent to another. A call needs 512 KiB of stack at
@@ -41,6 +42,7 @@ typedef struct { uint64_t refused, place, matches; } gc_moved;
 typedef struct { uint64_t refused, place, states; } gc_model;
 typedef struct { uint64_t refused, place, states, lasting; } gc_lasts;
 typedef struct { uint64_t refused, place, found, length, pairs, uses; } gc_searched;
+typedef struct { uint64_t refused, place, weight, finals; } gc_trimmed;
 typedef struct { uint64_t refused, place, length, weight, uses; } gc_text;
 
 gc_rule gc_read_rule(const uint8_t *rule, size_t rule_len);
@@ -66,6 +68,15 @@ gc_lasts gc_lasting(const uint8_t *model, size_t model_len);
 gc_searched gc_search(const uint8_t *rule, size_t rule_len, const uint8_t *model, size_t model_len,
                       uint64_t *table, size_t table_len, uint16_t *work1, size_t work1_len,
                       uint16_t *work2, size_t work2_len, uint8_t *run, size_t run_len);
+/* Takes the states that do no work out of a table, built or not: 0 stays, and each state on a path from 0 to a final by
+ * labels that are not 0, all numbered anew in rising order. 24 if `weight` is 0 or above 64, or a final or one of the
+ * first 4,096 labels lies outside it; else the new weight and finals. Labels outside the new weight are 0. */
+gc_trimmed gc_trim(uint64_t *table, size_t table_len, uint64_t weight, uint64_t finals);
+/* as gc_search, over the rule's table as it is trimmed: the run and the refusals are the same, `pairs` and the table that
+ * is left are the trimmed one's */
+gc_searched gc_search_trimmed(const uint8_t *rule, size_t rule_len, const uint8_t *model, size_t model_len,
+                              uint64_t *table, size_t table_len, uint16_t *work1, size_t work1_len,
+                              uint16_t *work2, size_t work2_len, uint8_t *run, size_t run_len);
 /* rulecheck's line for one input (without the closing newline) into out, which holds 16,384 bytes or more;
  * the answer is the line's length, 0 where out is shorter than that, and out is then untouched */
 uint64_t gc_rulecheck(const uint8_t *input, size_t input_len, uint8_t *out, size_t out_len);

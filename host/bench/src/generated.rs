@@ -57,6 +57,68 @@ pub fn run(seed: u64) {
     row("search, plain", &cases, |case| {
         plain::search(&case.rule, &case.model, [ENTRIES; 4]).is_ok()
     });
+    row("trimmed, proved", &cases, |case| {
+        workspace.search_trimmed(&case.rule, &case.model).is_ok()
+    });
+    row("trimmed, plain", &cases, |case| {
+        plain::search_trimmed(&case.rule, &case.model, [ENTRIES; 4]).is_ok()
+    });
+    sizes(&cases);
+}
+
+/// Prints what trimming saves: the weights of the rules' tables, and the pairs of the searches.
+fn sizes(cases: &[Case]) {
+    println!();
+    println!(
+        "`trimmed` is the search that trims the table before it looks. What it has before it:"
+    );
+    println!();
+    println!(
+        "{:<20}{:>10}{:>10}{:>10}{:>12}",
+        "", "median", "90 %", "largest", "all"
+    );
+    let tables = || {
+        cases
+            .iter()
+            .filter_map(|case| Table::build(&case.rule).ok())
+    };
+    let trimmed = tables().map(|mut table| {
+        table.trim();
+        table.weight()
+    });
+    numbers("weight, built", tables().map(|table| table.weight()));
+    numbers("weight, trimmed", trimmed);
+    let mut workspace = Workspace::new();
+    let mut pairs = |case: &Case| Some(workspace.search(&case.rule, &case.model).ok()?.pairs);
+    numbers("pairs, built", cases.iter().filter_map(&mut pairs));
+    let mut pairs = |case: &Case| {
+        Some(
+            workspace
+                .search_trimmed(&case.rule, &case.model)
+                .ok()?
+                .pairs,
+        )
+    };
+    numbers("pairs, trimmed", cases.iter().filter_map(&mut pairs));
+}
+
+fn numbers(name: &str, numbers: impl Iterator<Item = u64>) {
+    let mut sorted: Vec<u64> = numbers.collect();
+    sorted.sort_unstable();
+    let last = sorted.len().saturating_sub(1);
+    let part = |percent: usize| {
+        sorted
+            .get(last * percent / 100)
+            .copied()
+            .unwrap_or_default()
+    };
+    println!(
+        "{name:<20}{:>10}{:>10}{:>10}{:>12}",
+        part(50),
+        part(90),
+        part(100),
+        sorted.iter().sum::<u64>()
+    );
 }
 
 /// How many of the searches find something.

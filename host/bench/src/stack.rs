@@ -87,7 +87,7 @@ fn measure(rules: &[Vec<u8>]) -> io::Result<Vec<Deepest>> {
     let model = models::full(models::MOST_STATES);
     let (mut table, mut run) = (vec![0; ENTRIES], vec![0; ENTRIES]);
     let (mut work1, mut work2) = (vec![0; ENTRIES], vec![0; ENTRIES]);
-    let mut out = vec![0; LINE_BYTES];
+    let (mut out, mut full) = (vec![0; LINE_BYTES], vec![u64::MAX; ENTRIES]);
     let mut calls = Vec::new();
     let mut each = |call, made: &mut dyn FnMut(&[u8])| -> io::Result<()> {
         calls.push(deepest(&memory, call, rules, made)?);
@@ -129,6 +129,19 @@ fn measure(rules: &[Vec<u8>]) -> io::Result<Vec<Deepest>> {
             run: &mut run,
         };
         raw::search(rule, &model, &mut lent);
+    })?;
+    each("trim", &mut |rule| {
+        raw::trim(&mut full, 64, rule.len() as u64);
+        full.fill(u64::MAX);
+    })?;
+    each("search_trimmed", &mut |rule| {
+        let mut lent = Lent {
+            table: &mut table,
+            work1: &mut work1,
+            work2: &mut work2,
+            run: &mut run,
+        };
+        raw::search_trimmed(rule, &model, &mut lent);
     })?;
     each("rulecheck", &mut |rule| {
         raw::rulecheck(&line_input(rule, &model), &mut out);

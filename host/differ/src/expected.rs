@@ -1,7 +1,9 @@
 //! The calls of [`gongcollar::raw`] as the plain library has them, the later content of lent slices included.
 
 use crate::lent::Slices;
-use gongcollar::raw::{Built, Judged, Lasts, Model, Moved, Rule, Searched, Stepped, Walker};
+use gongcollar::raw::{
+    Built, Judged, Lasts, Model, Moved, Rule, Searched, Stepped, Trimmed, Walker,
+};
 use gongcollar::{ENTRIES, LINE_BYTES};
 use plain::Refusal;
 
@@ -151,13 +153,54 @@ pub fn lasting(model: &[u8]) -> Lasts {
     }
 }
 
+/// What `trim` should answer and write.
+pub fn trim(table: &mut [u64], weight: u64, finals: u64) -> Trimmed {
+    match plain::trim(table, weight, finals) {
+        Ok(trimmed) => {
+            table[..ENTRIES].copy_from_slice(&trimmed.labels);
+            Trimmed {
+                weight: trimmed.weight,
+                finals: trimmed.finals,
+                ..Trimmed::default()
+            }
+        }
+        Err(Refusal { number, place }) => Trimmed {
+            refused: number,
+            place,
+            ..Trimmed::default()
+        },
+    }
+}
+
 /// What `search` should answer and write.
 pub fn search(rule: &[u8], model: &[u8], slices: &mut Slices) -> Searched {
-    match plain::search(rule, model, slices.lengths()) {
+    let searched = plain::search(rule, model, slices.lengths());
+    search_as(searched, rule, slices, |table| {
+        build(rule, table);
+    })
+}
+
+/// What `search_trimmed` should answer and write.
+pub fn search_trimmed(rule: &[u8], model: &[u8], slices: &mut Slices) -> Searched {
+    let searched = plain::search_trimmed(rule, model, slices.lengths());
+    search_as(searched, rule, slices, |table| {
+        let built = build(rule, table);
+        trim(table, built.weight, built.finals);
+    })
+}
+
+/// What a search should answer and write, and what it leaves in the table slice.
+fn search_as(
+    searched: Result<plain::Searched, Refusal>,
+    rule: &[u8],
+    slices: &mut Slices,
+    leave: impl FnOnce(&mut [u64]),
+) -> Searched {
+    match searched {
         Ok(searched) => {
             slices.work1[..ENTRIES].fill(0);
             slices.work2[..ENTRIES].fill(0);
-            build(rule, &mut slices.table);
+            leave(&mut slices.table);
             Searched {
                 uses: names(rule),
                 ..found(searched, &mut slices.run)

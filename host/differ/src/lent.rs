@@ -1,7 +1,7 @@
 //! Slices to lend, filled with junk.
 
 use cases::Draws;
-use gongcollar::{Lent, ENTRIES, LINE_BYTES};
+use gongcollar::{Lent, ENTRIES, LINE_BYTES, STATES};
 
 /// The four slices of a search.
 #[derive(Debug, Clone, PartialEq, Eq)]
@@ -88,6 +88,32 @@ pub fn labels(draws: &mut Draws) -> Vec<u64> {
         false => 0,
     };
     (0..length).map(label).collect()
+}
+
+/// Labels inside a weight, of which few or many are not 0, and finals inside it; nothing keeps them from entering state 0.
+/// Entries past a table are junk.
+pub fn states(draws: &mut Draws) -> (Vec<u64>, u64, u64) {
+    let bound = draws.one_of(&[4, 12, STATES]);
+    let weight = draws.between(1, bound);
+    let once_in = draws.one_of(&[1, 3, weight, 2 * weight]);
+    let length = long(draws);
+    let mut labels = words(draws, length);
+    labels[..ENTRIES].fill(0);
+    for p in 0..weight {
+        for q in 0..weight {
+            if draws.once_in(once_in) {
+                labels[STATES * p + q] = draws.set();
+            }
+        }
+    }
+    let few = draws.once_in(2);
+    let finals = if few {
+        1 << draws.below(STATES)
+    } else {
+        draws.set()
+    };
+    let inside = u64::MAX >> (STATES - weight);
+    (labels, weight as u64, finals & inside)
 }
 
 /// Junk for a line, now and then too short.

@@ -12,8 +12,8 @@ use std::process::ExitCode;
 
 const SEED: u64 = 20_260_101;
 /// Every refusal of the interface; each must come up.
-const REFUSALS: [u64; 20] = [
-    1, 2, 3, 4, 5, 6, 7, 11, 12, 13, 14, 15, 16, 21, 22, 23, 25, 30, 31, 32,
+const REFUSALS: [u64; 21] = [
+    1, 2, 3, 4, 5, 6, 7, 11, 12, 13, 14, 15, 16, 21, 22, 23, 24, 25, 30, 31, 32,
 ];
 const FEWEST_CASES: usize = 20_000;
 
@@ -26,6 +26,7 @@ const STEPS: usize = 15;
 const WALKS: usize = 2000;
 /// The longest sequence that is followed at once.
 const LONG_WALK: usize = 300;
+const TRIMS: usize = 3000;
 const RINGS: usize = 300;
 const FORKS: usize = 2000;
 
@@ -46,6 +47,7 @@ fn main() -> ExitCode {
     good_and_bad_models(&mut trials);
     steps(&mut trials);
     walks(&mut trials);
+    trims(&mut trials);
     differ::texts::run(&mut trials);
     differ::clinics::run(&mut trials);
     verdict(seed, &trials)
@@ -256,6 +258,46 @@ fn walks(trials: &mut Trials) {
             }
         }
     }
+}
+
+/// Tables of rules and of no rule, also with labels into state 0; the same with a stated weight, a final or a label that is
+/// off; and labels with no plan.
+fn trims(trials: &mut Trials) {
+    for _ in 0..TRIMS {
+        let rule = rules::accepted(&mut trials.draws);
+        if let Ok(built) = plain::build(&rule, gongcollar::ENTRIES) {
+            trials.trim("a rule's labels", &built.labels, built.weight, built.finals);
+            trim_damaged(trials, built.labels, built.weight, built.finals);
+        }
+        let (labels, weight, finals) = lent::states(&mut trials.draws);
+        trials.trim("random labels", &labels, weight, finals);
+        trim_damaged(trials, labels, weight, finals);
+        let labels = lent::labels(&mut trials.draws);
+        let (weight, finals) = (trials.draws.below(67) as u64, trials.draws.set());
+        trials.trim("no plan", &labels, weight, finals);
+    }
+    for label in [0, 1, 1 << 63, u64::MAX] {
+        let labels = vec![label; gongcollar::ENTRIES];
+        for weight in [0, 1, 63, 64, 65, u64::MAX] {
+            for finals in [0, 1, 2, 1 << 63, u64::MAX] {
+                trials.trim("hostile", &labels, weight, finals);
+                trials.trim("hostile", &labels[1..], weight, finals);
+            }
+        }
+    }
+}
+
+/// A table with one thing off: its length, its weight, a final, or a label.
+fn trim_damaged(trials: &mut Trials, mut labels: Vec<u64>, weight: u64, finals: u64) {
+    let draws = &mut trials.draws;
+    let (mut weight, mut finals) = (weight, finals);
+    match draws.below(4) {
+        0 => labels.truncate(draws.one_of(&[0, 1, gongcollar::ENTRIES - 1])),
+        1 => weight = draws.one_of(&[0, weight - 1, weight + 1, 64, 65, u64::MAX]),
+        2 => finals |= 1 << draws.below(gongcollar::STATES),
+        _ => labels[draws.below(gongcollar::ENTRIES)] = draws.word(),
+    }
+    trials.trim("damaged", &labels, weight, finals);
 }
 
 fn some_letters(draws: &mut Draws) -> Vec<u8> {

@@ -4,13 +4,35 @@ use crate::expected;
 use crate::lent::{self, difference, Slices};
 use crate::report::{hex, Outcome, Report};
 use cases::{letters, models, Draws};
-use gongcollar::{raw, Refusal, Table, Walker, STATES};
+use gongcollar::{raw, Lent, Refusal, Searched, Table, Walker, STATES};
 use std::fmt::Debug;
 
 /// The longest sequence that is walked and not judged.
 const LONG_SEQUENCE: usize = 40;
 /// The longest sequence that is judged.
 const JUDGED: usize = 16;
+
+/// A call that searches: by the book, as it is declared, and as it is safe.
+struct Search {
+    name: &'static str,
+    expected: fn(&[u8], &[u8], &mut Slices) -> raw::Searched,
+    raw: fn(&[u8], &[u8], &mut Lent<'_>) -> raw::Searched,
+    safe: for<'a> fn(&[u8], &[u8], Lent<'a>) -> Result<Searched<'a>, Refusal>,
+}
+
+const WHOLE: Search = Search {
+    name: "search",
+    expected: expected::search,
+    raw: raw::search,
+    safe: gongcollar::search_into,
+};
+
+const TRIMMED: Search = Search {
+    name: "search_trimmed",
+    expected: expected::search_trimmed,
+    raw: raw::search_trimmed,
+    safe: gongcollar::search_trimmed_into,
+};
 
 /// Trials with draws of their own.
 #[derive(Debug)]
@@ -164,14 +186,20 @@ impl Trials {
         self.report.note("lasting", sort, outcome, fault);
     }
 
-    /// Searches a model, over junk.
+    /// Searches a model over the whole table and over the trimmed one, over junk.
     pub fn search(&mut self, sort: &'static str, rule: &[u8], model: &[u8]) {
+        for search in [WHOLE, TRIMMED] {
+            self.search_by(&search, sort, rule, model);
+        }
+    }
+
+    fn search_by(&mut self, search: &Search, sort: &'static str, rule: &[u8], model: &[u8]) {
         let mut slices = Slices::drawn(&mut self.draws);
         let mut expected_slices = slices.clone();
         let mut safe_slices = slices.clone();
-        let want = expected::search(rule, model, &mut expected_slices);
-        let got = raw::search(rule, model, &mut slices.lent());
-        let safe = gongcollar::search_into(rule, model, safe_slices.lent())
+        let want = (search.expected)(rule, model, &mut expected_slices);
+        let got = (search.raw)(rule, model, &mut slices.lent());
+        let safe = (search.safe)(rule, model, safe_slices.lent())
             .map(|x| (x.run.map(<[u8]>::to_vec), x.pairs, x.uses.bits()));
         let run = expected_run(&want, &expected_slices);
         let fault = unlike(got, want)
@@ -187,7 +215,44 @@ impl Trials {
             )
         });
         let outcome = Outcome::of(want.refused, if want.found == 1 { "found" } else { "none" });
-        self.report.note("search", sort, outcome, fault);
+        self.report.note(search.name, sort, outcome, fault);
+    }
+
+    /// Trims whatever labels are there, and what comes of it once more.
+    pub fn trim(&mut self, sort: &'static str, labels: &[u64], weight: u64, finals: u64) {
+        let mut table = labels.to_vec();
+        let mut expected_table = table.clone();
+        let mut safe_table = table.clone();
+        let want = expected::trim(&mut expected_table, weight, finals);
+        let got = raw::trim(&mut table, weight, finals);
+        let safe = gongcollar::trim_into(&mut safe_table, weight, finals);
+        let safe = safe.map(|trimmed| (trimmed.weight, trimmed.finals));
+        let fault = unlike(got, want)
+            .or_else(|| difference("table", &table, &expected_table))
+            .or_else(|| {
+                let answer = (want.weight, want.finals);
+                unlike_safe(safe, want.refused, want.place, answer)
+            })
+            .or_else(|| difference("safe table", &safe_table, &expected_table))
+            .or_else(|| {
+                // What was trimmed is answered alike and stays as it is.
+                let again =
+                    (want.refused == 0).then(|| raw::trim(&mut table, got.weight, got.finals))?;
+                unlike(again, want).or_else(|| difference("again", &table, &expected_table))
+            });
+        let fault = fault.map(|text| {
+            let entries = labels.len();
+            format!("{entries} labels, weight {weight}, finals {finals:x}: {text}")
+        });
+        let outcome = Outcome::of(
+            want.refused,
+            if want.weight < weight {
+                "fewer"
+            } else {
+                "as many"
+            },
+        );
+        self.report.note("trim", sort, outcome, fault);
     }
 
     /// Searches a model that has a run which the rule's table can follow.

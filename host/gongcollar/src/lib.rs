@@ -7,6 +7,9 @@
 //! place that they come from; [`Table::follow`] decides a whole sequence, and [`judge`] a short one with no table. Bad
 //! input is a [`Refusal`] with its number and its place.
 //!
+//! [`Table::trim`] takes the states that do no work out of a table, and [`Workspace::search_trimmed`] searches over what
+//! is left.
+//!
 //! A [`Rule`] is read from text, as `{p0;{{p1}[*];p2}}`, and written as it.
 //!
 //! This crate is a thin layer over the proved static library. What it adds is Rust's types: nothing is decided here.
@@ -28,11 +31,14 @@ mod texts;
 mod walkers;
 
 pub use lines::{rulecheck, rulecheck_into};
-pub use models::{lasting, read_model, search_into, Lasting, Lent, ModelInfo, Searched, Workspace};
+pub use models::{
+    lasting, read_model, search_into, search_trimmed_into, Lasting, Lent, ModelInfo, Searched,
+    Workspace,
+};
 pub use propositions::Propositions;
 pub use refusal::Refusal;
 pub use rules::{judge, read_rule, RuleInfo};
-pub use tables::{build_into, follow, Built, Table};
+pub use tables::{build_into, follow, trim_into, Built, Table, Trimmed};
 pub use texts::{read_text_into, write_text_into, Rule};
 pub use walkers::{Stepped, Steps, Walker};
 

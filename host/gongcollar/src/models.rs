@@ -108,7 +108,23 @@ pub fn search_into<'a>(
     mut lent: Lent<'a>,
 ) -> Result<Searched<'a>, Refusal> {
     let answer = raw::search(rule, model, &mut lent);
-    let output: &'a [u8] = lent.run;
+    told(answer, lent)
+}
+
+/// The same over the rule's table as it is trimmed: the run and the refusals are those of [`search_into`], the pairs and
+/// the table that is left are the trimmed one's.
+pub fn search_trimmed_into<'a>(
+    rule: &[u8],
+    model: &[u8],
+    mut lent: Lent<'a>,
+) -> Result<Searched<'a>, Refusal> {
+    let answer = raw::search_trimmed(rule, model, &mut lent);
+    told(answer, lent)
+}
+
+/// What a search says, with the run that stands in the output.
+fn told(answer: raw::Searched, lent: Lent<'_>) -> Result<Searched<'_>, Refusal> {
+    let output: &[u8] = lent.run;
     let run = (answer.found != 0).then(|| front(output, answer.length));
     let searched = Searched {
         run,
@@ -164,16 +180,37 @@ impl Workspace {
 
     /// Searches the model for a run that matches the rule and can be continued for ever.
     pub fn search(&mut self, rule: &[u8], model: &[u8]) -> Result<Searched<'_>, Refusal> {
-        let lent = Lent {
+        search_into(rule, model, self.lent())
+    }
+
+    /// The same over the rule's table as it is trimmed: the run is the same, and no more pairs are reached.
+    ///
+    /// ```
+    /// use gongcollar::Workspace;
+    ///
+    /// // {p0|{p0;false}}: the second part leads nowhere.
+    /// let rule = [0x14, 0x10, 0x01, 0x00, 0x12, 0x10, 0x01, 0x00, 0x10, 0x03];
+    /// let one = [0x20, 0x01, 0x01, 0x01, 0, 0, 0, 0, 0, 0, 0];
+    /// let mut workspace = Workspace::new();
+    /// assert_eq!(workspace.search(&rule, &one)?.pairs, 2);
+    /// let searched = workspace.search_trimmed(&rule, &one)?;
+    /// assert_eq!((searched.run, searched.pairs), (Some(&[0][..]), 1));
+    /// # Ok::<(), gongcollar::Refusal>(())
+    /// ```
+    pub fn search_trimmed(&mut self, rule: &[u8], model: &[u8]) -> Result<Searched<'_>, Refusal> {
+        search_trimmed_into(rule, model, self.lent())
+    }
+
+    fn lent(&mut self) -> Lent<'_> {
+        Lent {
             table: &mut self.table,
             work1: &mut self.work1,
             work2: &mut self.work2,
             run: &mut self.run,
-        };
-        search_into(rule, model, lent)
+        }
     }
 
-    /// The labels of the rule that was searched for last; all 0 before the first search.
+    /// The labels of the table that was searched last; all 0 before the first search.
     pub fn table(&self) -> &[u64] {
         &self.table
     }

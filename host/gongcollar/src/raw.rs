@@ -120,7 +120,7 @@ pub struct Lasts {
     pub lasting: u64,
 }
 
-/// What `gc_search` answers.
+/// What `gc_search` and `gc_search_trimmed` answer.
 #[repr(C)]
 #[derive(Debug, Clone, Copy, Default, PartialEq, Eq)]
 pub struct Searched {
@@ -136,6 +136,20 @@ pub struct Searched {
     pub pairs: u64,
     /// The propositions that the rule names, bit i for proposition i.
     pub uses: u64,
+}
+
+/// What `gc_trim` answers.
+#[repr(C)]
+#[derive(Debug, Clone, Copy, Default, PartialEq, Eq)]
+pub struct Trimmed {
+    /// 0 for an answer, else the refusal's number.
+    pub refused: u64,
+    /// Where the refusal is.
+    pub place: u64,
+    /// The number of states that are left.
+    pub weight: u64,
+    /// The set of final states at their new numbers, bit q for state q.
+    pub finals: u64,
 }
 
 /// What `gc_read_text` and `gc_write_text` answer.
@@ -168,7 +182,9 @@ pub struct Lent<'a> {
 }
 
 mod c {
-    use super::{Built, Judged, Lasts, Model, Moved, Rule, Searched, Stepped, Text, Walker};
+    use super::{
+        Built, Judged, Lasts, Model, Moved, Rule, Searched, Stepped, Text, Trimmed, Walker,
+    };
 
     extern "C" {
         pub fn gc_read_rule(rule: *const u8, rule_len: usize) -> Rule;
@@ -202,6 +218,21 @@ mod c {
         pub fn gc_read_model(model: *const u8, model_len: usize) -> Model;
         pub fn gc_lasting(model: *const u8, model_len: usize) -> Lasts;
         pub fn gc_search(
+            rule: *const u8,
+            rule_len: usize,
+            model: *const u8,
+            model_len: usize,
+            table: *mut u64,
+            table_len: usize,
+            work1: *mut u16,
+            work1_len: usize,
+            work2: *mut u16,
+            work2_len: usize,
+            run: *mut u8,
+            run_len: usize,
+        ) -> Searched;
+        pub fn gc_trim(table: *mut u64, table_len: usize, weight: u64, finals: u64) -> Trimmed;
+        pub fn gc_search_trimmed(
             rule: *const u8,
             rule_len: usize,
             model: *const u8,
@@ -310,13 +341,28 @@ pub fn lasting(model: &[u8]) -> Lasts {
     unsafe { c::gc_lasting(model.as_ptr(), model.len()) }
 }
 
-/// `gc_search`: the first shortest run of the model that matches the rule.
-pub fn search(rule: &[u8], model: &[u8], lent: &mut Lent<'_>) -> Searched {
+/// A call that searches: both take the same.
+type Searching = unsafe extern "C" fn(
+    *const u8,
+    usize,
+    *const u8,
+    usize,
+    *mut u64,
+    usize,
+    *mut u16,
+    usize,
+    *mut u16,
+    usize,
+    *mut u8,
+    usize,
+) -> Searched;
+
+fn searched(call: Searching, rule: &[u8], model: &[u8], lent: &mut Lent<'_>) -> Searched {
     let model = apart(rule, model);
     // SAFETY: the four lent slices are each borrowed alone, so they overlap neither each other nor what is read; and
     // the two that are read do not overlap.
     unsafe {
-        c::gc_search(
+        call(
             rule.as_ptr(),
             rule.len(),
             model.as_ptr(),
@@ -331,6 +377,22 @@ pub fn search(rule: &[u8], model: &[u8], lent: &mut Lent<'_>) -> Searched {
             lent.run.len(),
         )
     }
+}
+
+/// `gc_search`: the first shortest run of the model that matches the rule.
+pub fn search(rule: &[u8], model: &[u8], lent: &mut Lent<'_>) -> Searched {
+    searched(c::gc_search, rule, model, lent)
+}
+
+/// `gc_search_trimmed`: the same over the rule's table as it is trimmed.
+pub fn search_trimmed(rule: &[u8], model: &[u8], lent: &mut Lent<'_>) -> Searched {
+    searched(c::gc_search_trimmed, rule, model, lent)
+}
+
+/// `gc_trim`: the states that do no work out of a lent table.
+pub fn trim(table: &mut [u64], weight: u64, finals: u64) -> Trimmed {
+    // SAFETY: one slice, borrowed alone.
+    unsafe { c::gc_trim(table.as_mut_ptr(), table.len(), weight, finals) }
 }
 
 /// `gc_rulecheck`: the line that the program rulecheck prints, without its newline; the answer is its length.
@@ -397,6 +459,11 @@ mod tests {
             let (w1, w2) = (null_mut(), null_mut());
             let searched = c::gc_search(rule.0, rule.1, n, 0, null_mut(), 0, w1, 0, w2, 0, m, 0);
             assert_eq!(searched, search(&empty, &[], &mut lent));
+            let (w1, w2) = (null_mut(), null_mut());
+            let searched =
+                c::gc_search_trimmed(rule.0, rule.1, n, 0, null_mut(), 0, w1, 0, w2, 0, m, 0);
+            assert_eq!(searched, search_trimmed(&empty, &[], &mut lent));
+            assert_eq!(c::gc_trim(null_mut(), 0, 1, 1), trim(&mut [], 1, 1));
             assert_eq!(c::gc_rulecheck(n, 0, m, 0), 0);
         }
         assert_eq!(judge(&empty, &[]).accepts, 1);

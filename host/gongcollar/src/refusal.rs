@@ -80,6 +80,7 @@ refusals! {
     ShortSlice = 21: "a lent slice below 4,096 entries";
     EventLetter = 22: "an event's letter above 63";
     TooManyLetters = 23: "more than 16 letters to judge";
+    NoTable = 24: "no table of the stated weight and finals";
     FullCount = 25: "a walker that has taken 4,294,967,295 letters";
     TextTooLong = 30: "the text has more than 1,280 characters";
     NoText = 31: "no rule text has this character here";

@@ -35,6 +35,42 @@ pub fn build_into(rule: &[u8], table: &mut [u64]) -> Result<Built, Refusal> {
     Refusal::unless(answer.refused, answer.place, built)
 }
 
+/// What is known of a trimmed table beside its labels.
+#[derive(Debug, Clone, Copy, PartialEq, Eq)]
+#[non_exhaustive]
+pub struct Trimmed {
+    /// The number of states that are left, 1 to 64.
+    pub weight: u64,
+    /// The set of final states at their new numbers, bit q for state q.
+    pub finals: u64,
+}
+
+/// Takes the states that do no work out of a lent table of that weight and those finals, built or not. State 0 stays, and
+/// each state on a path from 0 to a final by labels that are not 0; they are numbered anew in rising order.
+///
+/// Of the first 4,096 entries those outside the new weight are 0; later ones stay.
+///
+/// ```
+/// // A table of three states: 0 goes to 2, which is final, and nothing enters 1.
+/// let mut lent = vec![0; gongcollar::ENTRIES];
+/// lent[2] = 1;
+/// lent[64 + 2] = 1;
+/// let trimmed = gongcollar::trim_into(&mut lent, 3, 0b100)?;
+/// assert_eq!((trimmed.weight, trimmed.finals), (2, 0b10));
+/// assert_eq!((lent[1], lent[2], lent[64 + 2]), (1, 0, 0));
+///
+/// assert_eq!(gongcollar::trim_into(&mut lent, 1, 0).unwrap_err().number(), 24);
+/// # Ok::<(), gongcollar::Refusal>(())
+/// ```
+pub fn trim_into(table: &mut [u64], weight: u64, finals: u64) -> Result<Trimmed, Refusal> {
+    let answer = raw::trim(table, weight, finals);
+    let trimmed = Trimmed {
+        weight: answer.weight,
+        finals: answer.finals,
+    };
+    Refusal::unless(answer.refused, answer.place, trimmed)
+}
+
 /// A rule's table in memory of its own.
 ///
 /// ```
@@ -62,6 +98,26 @@ impl Table {
         let mut entries = vec![0; ENTRIES];
         let built = build_into(rule, &mut entries)?;
         Ok(Table { entries, built })
+    }
+
+    /// Takes the states that do no work out. The table accepts what it accepted, and trimming it again changes nothing.
+    ///
+    /// ```
+    /// // p0;{p1[*];p2}
+    /// let mut table = gongcollar::Table::build(&[
+    ///     0x12, 0x10, 0x01, 0x00, 0x12, 0x17, 0x10, 0x01, 0x01, 0x10, 0x01, 0x02,
+    /// ])?;
+    /// table.trim();
+    /// assert_eq!((table.weight(), table.finals()), (4, 1 << 3));
+    /// assert!(table.follow(&[1, 2, 4])?);
+    /// # Ok::<(), gongcollar::Refusal>(())
+    /// ```
+    pub fn trim(&mut self) {
+        // The table of a rule is never refused.
+        if let Ok(trimmed) = trim_into(&mut self.entries, self.built.weight, self.built.finals) {
+            self.built.weight = trimmed.weight;
+            self.built.finals = trimmed.finals;
+        }
     }
 
     /// The number of states, 1 to 64. State 0 is the initial one.

@@ -19,7 +19,8 @@
 //! | the walker | `walk` | [`Walker`], [`start`], [`step`], [`follow`] |
 //! | bytes to models | `model` | [`read_model`], [`Model`] |
 //! | which states of a model last | `lasting` | [`lasting()`], [`Lasting`] |
-//! | the search and its count | `search` | [`search()`], [`Searched`] |
+//! | the search and its count | `search` | [`search()`], [`search_trimmed`], [`Searched`] |
+//! | the trimmed table | `trim` | [`trim()`] |
 //! | what rulecheck prints | `line` | [`line()`] |
 //! | rules as text | `text` | [`read_text`], [`write_text`], [`Given`] |
 
@@ -40,6 +41,7 @@ mod search;
 mod set;
 mod table;
 mod text;
+mod trim;
 mod walk;
 
 pub use formula::Formula;
@@ -51,7 +53,8 @@ pub use model::{read_model, Model};
 pub use reader::{read_rule, ReadRule};
 pub use refusal::Refusal;
 pub use rule::Rule;
-pub use search::{search, Searched};
+pub use search::{search, search_trimmed, Searched};
 pub use table::{build, Table, TABLE_ENTRIES};
 pub use text::{read_text, write_text, Given};
+pub use trim::trim;
 pub use walk::{follow, start, step, Walker};

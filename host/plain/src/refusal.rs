@@ -35,6 +35,7 @@ pub(crate) const NO_SUCH_SUCCESSOR: u64 = 16;
 pub(crate) const SLICE_TOO_SHORT: u64 = 21;
 pub(crate) const EVENT_LETTER: u64 = 22;
 pub(crate) const TOO_MANY_LETTERS: u64 = 23;
+pub(crate) const NO_TABLE: u64 = 24;
 pub(crate) const COUNT_FULL: u64 = 25;
 pub(crate) const TEXT_TOO_LONG: u64 = 30;
 pub(crate) const NO_TEXT: u64 = 31;

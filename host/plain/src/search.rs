@@ -7,8 +7,10 @@
 use crate::model::{read_model, Model};
 use crate::reader::read_rule;
 use crate::refusal::{Refusal, SLICE_TOO_SHORT};
+use crate::rule::Rule;
 use crate::set::{members, only};
 use crate::table::{table_of, Table, TABLE_ENTRIES};
+use crate::trim::trimmed;
 use crate::walk::{reached, START};
 
 /// What a search answers.
@@ -23,13 +25,24 @@ pub struct Searched {
 /// Searches the model for a run that the rule accepts. The four lengths are those of the lent slices.
 /// Refuses a faulty rule, then a faulty model, then 21.
 pub fn search(rule: &[u8], model: &[u8], slices: [usize; 4]) -> Result<Searched, Refusal> {
+    let (rule, model) = read(rule, model, slices)?;
+    Ok(Product::new(&model, &table_of(&rule)).search())
+}
+
+/// The same with the table trimmed before it looks (2026-04).
+pub fn search_trimmed(rule: &[u8], model: &[u8], slices: [usize; 4]) -> Result<Searched, Refusal> {
+    let (rule, model) = read(rule, model, slices)?;
+    let table = table_of(&rule);
+    Ok(Product::new(&model, &trimmed(&table.labels, table.finals)).search())
+}
+
+fn read(rule: &[u8], model: &[u8], slices: [usize; 4]) -> Result<(Rule, Model), Refusal> {
     let rule = read_rule(rule)?.rule;
     let model = read_model(model)?;
     if slices.iter().any(|&length| length < TABLE_ENTRIES) {
         return Err(Refusal::at(SLICE_TOO_SHORT, 0));
     }
-    let model = model.without_dead_ends();
-    Ok(Product::new(&model, &table_of(&rule)).search())
+    Ok((rule, model.without_dead_ends()))
 }
 
 /// A set of pairs: for each model state a set of table states.

@@ -6,7 +6,7 @@
 use cases::texts;
 use cases::{heavy, hostile, line_input, models};
 use differ::expected;
-use gongcollar::raw::{self, Built, Judged, Moved, Rule};
+use gongcollar::raw::{self, Built, Judged, Moved, Rule, Trimmed};
 use gongcollar::{read_text_into, write_text_into, Workspace, ENTRIES, RULE_BYTES, TEXT_BYTES};
 use std::process::ExitCode;
 use std::thread;
@@ -25,15 +25,30 @@ struct Said {
     built: Built,
     followed: Moved,
     judged: Judged,
+    trimmed: Trimmed,
     searched: Searched,
+    searched_trimmed: Searched,
     line: String,
 }
 
-fn by_library(rule: &[u8], model: &[u8]) -> Said {
-    let searched = Workspace::new()
-        .search(rule, model)
+/// What the library's search says.
+fn told_by_library(searched: Result<gongcollar::Searched<'_>, gongcollar::Refusal>) -> Searched {
+    searched
         .map(|found| (found.run.map(<[u8]>::to_vec), found.pairs))
-        .map_err(|refusal| (refusal.number(), refusal.place()));
+        .map_err(|refusal| (refusal.number(), refusal.place()))
+}
+
+/// What the search by the book says.
+fn told_by_the_book(searched: Result<plain::Searched, plain::Refusal>) -> Searched {
+    searched
+        .map(|found| (found.run, found.pairs))
+        .map_err(|refusal| (refusal.number, refusal.place))
+}
+
+fn by_library(rule: &[u8], model: &[u8]) -> Said {
+    let mut workspace = Workspace::new();
+    let searched = told_by_library(workspace.search(rule, model));
+    let searched_trimmed = told_by_library(workspace.search_trimmed(rule, model));
     let mut table = vec![0; ENTRIES];
     let built = raw::build(rule, &mut table);
     Said {
@@ -41,15 +56,16 @@ fn by_library(rule: &[u8], model: &[u8]) -> Said {
         built,
         followed: raw::follow(&table, built.finals, &LETTERS),
         judged: raw::judge(rule, &LETTERS),
+        trimmed: raw::trim(&mut table, built.weight, built.finals),
         searched,
+        searched_trimmed,
         line: gongcollar::rulecheck(&line_input(rule, model)),
     }
 }
 
 fn by_the_book(rule: &[u8], model: &[u8]) -> Said {
-    let searched = plain::search(rule, model, [ENTRIES; 4])
-        .map(|found| (found.run, found.pairs))
-        .map_err(|refusal| (refusal.number, refusal.place));
+    let searched = told_by_the_book(plain::search(rule, model, [ENTRIES; 4]));
+    let searched_trimmed = told_by_the_book(plain::search_trimmed(rule, model, [ENTRIES; 4]));
     let mut table = vec![0; ENTRIES];
     let built = expected::build(rule, &mut table);
     Said {
@@ -57,7 +73,9 @@ fn by_the_book(rule: &[u8], model: &[u8]) -> Said {
         built,
         followed: expected::follow(&table, built.finals, &LETTERS),
         judged: expected::judge(rule, &LETTERS),
+        trimmed: expected::trim(&mut table, built.weight, built.finals),
         searched,
+        searched_trimmed,
         line: plain::line(&line_input(rule, model)),
     }
 }
@@ -125,7 +143,7 @@ fn main() -> ExitCode {
         return ExitCode::FAILURE;
     };
     println!(
-        "{count} hostile rules through seven calls each and {text_count} hostile texts on this stack, {wrong} answered wrongly"
+        "{count} hostile rules through nine calls each and {text_count} hostile texts on this stack, {wrong} answered wrongly"
     );
     ExitCode::from(u8::from(wrong > 0))
 }

@@ -84,7 +84,7 @@ fn the_version_goes_with_the_page() {
     assert_eq!(version, ["7"]);
     assert_eq!(
         [answers.len(), fields, calls.len(), parameters],
-        [10, 43, 13, 52]
+        [11, 47, 15, 68]
     );
 }
 

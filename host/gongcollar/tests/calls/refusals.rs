@@ -4,7 +4,7 @@ use crate::inputs::{state, three_states, RULE};
 use cases::hostile::joined_left;
 use cases::line_input;
 use cases::rules::{ANY, P0};
-use gongcollar::{build_into, follow, judge, read_model, read_rule, rulecheck};
+use gongcollar::{build_into, follow, judge, read_model, read_rule, rulecheck, trim_into};
 use gongcollar::{raw, Refusal, Table, Walker, Workspace};
 use std::fmt::Debug;
 
@@ -85,6 +85,7 @@ fn faulty_rules_are_refused_by_every_call_that_reads_one() {
         refused(judge(&rule, &[64; 17]), expected, number);
         let mut workspace = Workspace::new();
         refused(workspace.search(&rule, &[0]), expected, number);
+        refused(workspace.search_trimmed(&rule, &[0]), expected, number);
     }
 }
 
@@ -94,6 +95,7 @@ fn faulty_models_are_refused_by_every_call_that_reads_one() {
         refused(read_model(&model), expected, number);
         let mut workspace = Workspace::new();
         refused(workspace.search(&RULE, &model), expected, number);
+        refused(workspace.search_trimmed(&RULE, &model), expected, number);
     }
 }
 
@@ -187,6 +189,26 @@ fn a_walk_is_refused_by_its_table_then_by_its_first_bad_letter() {
     for (letters, place) in [(&[64][..], 0), (&[1, 255, 64], 1), (&[1, 2, 4, 64], 3)] {
         refused(table.follow(letters), Refusal::EventLetter { place }, 22);
     }
+}
+
+#[test]
+fn a_table_is_trimmed_if_it_stands_inside_its_weight() {
+    let none = [0; gongcollar::ENTRIES];
+    for (weight, finals) in [(1, 0), (1, 1), (64, u64::MAX)] {
+        assert!(trim_into(&mut none.clone(), weight, finals).is_ok());
+    }
+    for (weight, finals) in [(0, 0), (65, 0), (u64::MAX, 0), (1, 2), (63, 1 << 63)] {
+        let refusal = Refusal::NoTable { place: 0 };
+        refused(trim_into(&mut none.clone(), weight, finals), refusal, 24);
+    }
+    for at in [2, 64 * 2, 64 * 63 + 63] {
+        let mut labels = none;
+        labels[at] = 1;
+        let refusal = Refusal::NoTable { place: 0 };
+        refused(trim_into(&mut labels, 2, 1), refusal, 24);
+    }
+    let short = Refusal::ShortSlice { place: 0 };
+    refused(trim_into(&mut none.clone()[1..], 0, 0), short, 21);
 }
 
 #[test]

@@ -2,7 +2,8 @@
 
 use crate::inputs::{state, three_states, two_of_three, RULE};
 use cases::line_input;
-use gongcollar::{build_into, judge, raw, rulecheck_into, search_into};
+use gongcollar::{build_into, judge, raw, rulecheck_into};
+use gongcollar::{search_into, search_trimmed_into, trim_into};
 use gongcollar::{Lent, Refusal, Table, Workspace, ENTRIES, LINE_BYTES};
 
 /// What stands in a lent slice before the call.
@@ -89,6 +90,54 @@ fn a_find_writes_its_run_and_no_more() {
         );
         assert_eq!(slices.run[..3], [0, 1, 2]);
         assert!(junk(&slices.run[3..]));
+    }
+}
+
+#[test]
+fn a_trimmed_search_leaves_the_trimmed_table() {
+    let mut slices = Slices::of([LONG; 4]);
+    search_trimmed_into(&RULE, &three_states(), slices.lent()).unwrap();
+    assert!(slices.worked());
+    let mut table = Table::build(&RULE).unwrap();
+    table.trim();
+    assert_eq!(slices.table[..ENTRIES], *table.entries());
+    assert_eq!(slices.run[..3], [0, 1, 2]);
+    assert!(junk(&slices.run[3..]));
+    let mut slices = Slices::of([LONG, LONG, LONG, ENTRIES - 1]);
+    assert!(search_trimmed_into(&RULE, &three_states(), slices.lent()).is_err());
+    assert!(slices.untouched());
+}
+
+#[test]
+fn a_trimmed_table_ends_at_its_entries() {
+    let mut lent = vec![u64::MAX; LONG];
+    let built = build_into(&RULE, &mut lent).unwrap();
+    let trimmed = trim_into(&mut lent, built.weight, built.finals).unwrap();
+    assert_eq!((trimmed.weight, trimmed.finals), (4, 1 << 3));
+    let mut table = Table::build(&RULE).unwrap();
+    table.trim();
+    assert_eq!(lent[..ENTRIES], *table.entries());
+    assert!(lent[ENTRIES..].iter().all(|&x| x == u64::MAX));
+    // Again nothing changes.
+    let before = lent.clone();
+    let again = trim_into(&mut lent, trimmed.weight, trimmed.finals).unwrap();
+    assert_eq!((again, lent), (trimmed, before));
+}
+
+#[test]
+fn a_refused_trim_changes_nothing() {
+    for length in SHORT {
+        let mut lent = vec![JUNK.into(); length];
+        let refusal = trim_into(&mut lent, 64, 1).unwrap_err();
+        assert_eq!(refusal, Refusal::ShortSlice { place: 0 });
+        assert!(junk(&lent));
+    }
+    // Labels everywhere are outside every weight but 64.
+    for (weight, finals) in [(0, 0), (1, 1), (63, 1), (65, 1), (u64::MAX, 1)] {
+        let mut lent = vec![JUNK.into(); LONG];
+        let refusal = trim_into(&mut lent, weight, finals).unwrap_err();
+        assert_eq!(refusal, Refusal::NoTable { place: 0 });
+        assert!(junk(&lent));
     }
 }
 
@@ -207,4 +256,13 @@ fn a_refusal_has_no_other_field() {
         ..Default::default()
     };
     assert_eq!(raw::follow(&[u64::MAX; ENTRIES], 1, &[0, 64]), moved);
+    assert_eq!(
+        raw::search_trimmed(&[0x12], &[], &mut slices.lent()),
+        searched
+    );
+    let trimmed = raw::Trimmed {
+        refused: 24,
+        ..Default::default()
+    };
+    assert_eq!(raw::trim(&mut [0; ENTRIES], 3, 0b1000), trimmed);
 }

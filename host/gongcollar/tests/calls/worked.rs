@@ -4,8 +4,8 @@ use crate::inputs::{dead_end, pair, state, three_states, two_of_three, P1, RULE}
 use cases::hostile::joined_left;
 use cases::rules::P0;
 use cases::{heavy, line_input, models};
-use gongcollar::{follow, judge, lasting, read_model, read_rule, rulecheck, Refusal, Table, Workspace};
-use gongcollar::{Refusal, Table, Walker, Workspace};
+use gongcollar::{follow, judge, lasting, read_model, read_rule, rulecheck};
+use gongcollar::{Refusal, Table, Workspace};
 
 const LABEL_P0: u64 = 0xAAAA_AAAA_AAAA_AAAA;
 const LABEL_P1: u64 = 0xCCCC_CCCC_CCCC_CCCC;
