@@ -1,7 +1,7 @@
 -- What the walks over a rule's bytes promise of whatever stands at a place. Assumes nothing: these are definitions.
-use Prim.Native.Nat.{ℕ, _+_, _<_, _≤_, min}
+use Prim.Native.Nat.{ℕ, _+_, _-_, _^_, _<_, _≤_, min}
 use mathlib.Core.Path.{_≡_}
-use mathlib.Core.Bool.{Bool}
+use mathlib.Core.Bool.{Bool, true, false}
 use mathlib.Core.List.{List, _∷_}
 use lib.ListN.{length, getD, drop}
 use Rattle.bits.specs.Word.{word}
@@ -79,6 +79,15 @@ LabelAs s at l = LabelUpTo s at letterCount l
 -- the label and the end
 abbrev pub LabelledAs : List ℕ → ℕ → Labelled → Type 0
 LabelledAs s at l = (f : Formula) (e : ℕ) → FormulaAt s at f e → (l .label ≡ word letterCount (holds f)) × (l .end ≡ e)
+
+-- a label, or where the `not`s over it are odd in number the label of all other letters
+abbrev pub flipped : Bool → ℕ → ℕ
+flipped false l = l
+flipped true l = 2 ^ letterCount - 1 - l
+
+-- from `at` to `to` there are only `not`s: of whatever formula stands at `at` an operand stands at `to`, and they end together
+pub record NotsTo (s : List ℕ) (at to : ℕ) (odd : Bool) : Type 0 where
+  pub under : (f : Formula) (e : ℕ) → FormulaAt s at f e → (g : Formula) × FormulaAt s to g e × (word letterCount (holds f) ≡ flipped odd (word letterCount (holds g)))
 
 -- entry i is the label of proposition i
 pub record PropositionLabels (labels : List ℕ) : Type 0 where

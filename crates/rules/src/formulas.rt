@@ -1,8 +1,9 @@
 // A formula that stands in the bytes: whether it holds in a letter, and its label.
 ghost use mathlib.Core.Path.{_≡_};
+ghost use Prim.Native.Nat.{_≤_};
 ghost use Rattle.rules.specs.Definition2.{joined};
 ghost use Rattle.rules.specs.Places.{GoodFormula};
-ghost use Rattle.rules.specs.Walks.{HoldsAs, LabelAs, LabelledAs, LabelsJoin, PropositionLabels};
+ghost use Rattle.rules.specs.Walks.{HoldsAs, LabelAs, LabelledAs, LabelsJoin, NotsTo, PropositionLabels, flipped};
 use crate::kinds::FormulaKind;
 use crate::kinds::Junction;
 use crate::kinds::Kind;
@@ -19,6 +20,9 @@ const PROPOSITIONS: [u64; 6] = [
     0xFFFF_0000_FFFF_0000,
     0xFFFF_FFFF_0000_0000,
 ];
+
+// The kind byte of `not`.
+const NOT: u8 = 0x04;
 
 // Whether a formula holds in the letter, and the place after the formula.
 pub struct Held {
@@ -94,6 +98,33 @@ pub fn holds_at(rule: &[u8], at: usize, letter: u8) -> Held
     }
 }
 
+// The label under an odd or an even number of `not`s.
+fn flip(odd: bool, label: u64) -> u64
+    ensures { λ r. ⌜ r ≡ flipped odd label ⌝ }
+{
+    if odd { !label } else { label }
+}
+
+// Where the `not`s in a row end, and whether they are odd in number.
+pub struct Nots {
+    pub end: usize,
+    pub odd: bool,
+}
+
+// Goes past the `not`s that stand at `at`, in a loop: a call for each would cost more than what it does.
+fn past_nots(rule: &[u8], at: usize) -> Nots
+    requires { ⌜ GoodFormula (now rule) at ⌝ }
+    ensures { λ r. ⌜ (at ≤ r .end) × NotsTo (now (rule .entry)) at (r .end) (r .odd) ⌝ }
+{
+    let mut end = at;
+    let mut odd = false;
+    while rule[end] == NOT {
+        end += 1;
+        odd = !odd;
+    }
+    Nots { end, odd }
+}
+
 // The label of the formula that stands at `at`, and the place after the formula. The labels of the propositions are lent: what is
 // made of them is the same whatever letters their bits are for.
 fn labelled_at(rule: &[u8], at: usize, propositions: &[u64]) -> Labelled
@@ -120,9 +151,10 @@ fn labelled_at(rule: &[u8], at: usize, propositions: &[u64]) -> Labelled
             end: at + 1,
         },
         FormulaKind::Not => {
-            let a = labelled_at(rule, at + 1, propositions);
+            let n = past_nots(rule, at + 1);
+            let a = labelled_at(rule, n.end, propositions);
             Labelled {
-                label: !a.label,
+                label: flip(!n.odd, a.label),
                 end: a.end,
             }
         }

@@ -78,6 +78,11 @@ fn searches() -> bool {
             heavy::row_of_any(),
             models::full(64),
         ),
+        (
+            "all of 64, 125 [+] of 31 true[*] and false",
+            heavy::dense_again_and_never(),
+            models::full(64),
+        ),
     ];
     let mut same = true;
     for (name, rule, model) in &cases {

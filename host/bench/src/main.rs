@@ -1,5 +1,6 @@
 //! Times of the proved library and of the plain one on the same inputs, and the stack that the proved one takes:
-//! `bench [SEED]`. The status is 1 if the libraries differ, or a call takes more stack than it may.
+//! `bench [SEED]`, or `bench stacks` for the stack alone, where an emulator's times would say nothing. The status is 1 if
+//! the libraries differ, or a call takes more stack than it may.
 
 mod generated;
 mod hard;
@@ -12,10 +13,15 @@ use cases::draws::seed_given;
 use std::process::ExitCode;
 
 const SEED: u64 = 20_260_110;
+/// The word that asks for the stacks alone.
+const STACKS: &str = "stacks";
 
 fn main() -> ExitCode {
+    if std::env::args().skip(1).eq([STACKS]) {
+        return ExitCode::from(u8::from(!stack::run()));
+    }
     let Some(seed) = seed_given(SEED) else {
-        eprintln!("usage: bench [SEED], a decimal number");
+        eprintln!("usage: bench [SEED], a decimal number, or bench {STACKS}");
         return ExitCode::from(2);
     };
     println!("Times in microseconds, of one call each. A call does all that it promises: it reads the rule and");

@@ -7,6 +7,9 @@ use gongcollar::{read_text_into, write_text_into, RULE_BYTES, TEXT_BYTES};
 /// Each call is made so many times.
 const CALLS: usize = 1001;
 
+/// Unfinished texts of so many characters, each nested to its end.
+const LENGTHS: [usize; 4] = [160, 320, 640, 1280];
+
 /// Rules of 255 bytes that are accepted, with a name.
 fn rules() -> Vec<(&'static str, Vec<u8>)> {
     let starred = nested(0x17, 4, &[0x10, 0x01, 0x00]);
@@ -39,7 +42,29 @@ pub fn run() -> bool {
         "{:<30}{:>8}{:>12}{:>10}{:>10}{:>10}{:>10}",
         "", "bytes", "characters", "read", "largest", "write", "largest"
     );
-    rules().iter().all(|(name, rule)| row(name, rule))
+    let back = rules().iter().all(|(name, rule)| row(name, rule));
+    growth();
+    back
+}
+
+/// Prints how the time of reading grows with the text: twice as many characters should take twice as long.
+fn growth() {
+    println!();
+    print!("{:<30}", "reading, as the text grows");
+    for count in LENGTHS {
+        print!("{count:>10}");
+    }
+    println!();
+    let mut bytes = [0; RULE_BYTES];
+    for (name, character) in [("nested !", b"!"), ("nested (", b"("), ("nested {", b"{")] {
+        print!("{name:<30}");
+        for count in LENGTHS {
+            let text = character.repeat(count);
+            let read = several(CALLS, || read_text_into(&text, &mut bytes).is_err());
+            print!("{:>10}", micros(read.median()));
+        }
+        println!();
+    }
 }
 
 fn row(name: &str, rule: &[u8]) -> bool {

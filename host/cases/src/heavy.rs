@@ -51,6 +51,20 @@ pub fn dense_and_never() -> Vec<u8> {
     rule
 }
 
+/// 31 times `true[*]` under 125 times `[+]`, then a letter that there is not: a table that takes long to build before a
+/// search that finds nothing. Of some hundred thousand searches tried, changed and kept where they took longer, the
+/// longest were of this kind.
+pub fn dense_again_and_never() -> Vec<u8> {
+    let mut rule = vec![THEN];
+    rule.extend(nested(
+        PLUS,
+        125,
+        &joined_right(THEN, &nested(STAR, 1, &ANY), 31),
+    ));
+    rule.extend(NEVER);
+    rule
+}
+
 /// Rules that keep the plain judge busy.
 pub fn for_the_judge() -> Vec<Named> {
     let once = nested(STAR, 4, &P0);

@@ -16,6 +16,8 @@ use Rattle.rules.proofs.formulas.labelled_at.Reads as labelled-at
 use Rattle.rules.proofs.formulas.labelled_at.Kinds as labelled-at-kinds
 use Rattle.rules.proofs.formulas.+labelled_at.Lts-labelled_at as labelled-at-lts
 use Rattle.rules.proofs.formulas.join_labels.Reads as join-labels-reads
+use Rattle.rules.proofs.formulas.past_nots.Reads as past-nots-reads
+use Rattle.rules.proofs.formulas.flip.Reads as flip-reads
 use Rattle.rules.proofs.kinds.kind_of.Reads as kind-of-reads
 use Rattle.rules.proofs.formulas.+labelled_at.{statement}
 use Rattle.rules.proofs.formulas.+labelled_at.Tie.{close}
@@ -30,7 +32,7 @@ abbrev labelled-at-below : ℕ → In 2 labelled-at-kinds.ps
 labelled-at-below t = and 2 labelled-at-kinds.ps (falls 2 labelled-at-kinds.ps _<_ μ-labelled-at t) labelled-at.Pre
 
 abbrev calls : ℕ → labelled-at-lts.Claims
-calls t = (kind-of-reads.Asked, kind-of-reads.Learnt, labelled-at-below t, labelled-at.Post, join-labels-reads.Asked, join-labels-reads.Learnt)
+calls t = (kind-of-reads.Asked, kind-of-reads.Learnt, past-nots-reads.Asked, past-nots-reads.Learnt, labelled-at-below t, labelled-at.Post, flip-reads.Asked, flip-reads.Learnt, join-labels-reads.Asked, join-labels-reads.Learnt)
 
 labelled-at-shared-slice-read-kind-of : (t : ℕ) → labelled-at-lts.Need-shared-slice-read-kind-of (calls t) (labelled-at-at t) labelled-at.Post
 labelled-at-shared-slice-read-kind-of t c =
@@ -66,8 +68,8 @@ labelled-at-add-body t c =
     let l = formula-here s at g in
     omega arith
 
-labelled-at-shared-slice-read-t16 : (t : ℕ) → labelled-at-lts.Need-shared-slice-read-t16 (calls t) (labelled-at-at t) labelled-at.Post
-labelled-at-shared-slice-read-t16 t c =
+labelled-at-shared-slice-read-t17 : (t : ℕ) → labelled-at-lts.Need-shared-slice-read-t17 (calls t) (labelled-at-at t) labelled-at.Post
+labelled-at-shared-slice-read-t17 t c =
     let z = c .before .before .before .before .before .before .before .before .before .before in
     let s = z .args .rule .now in
     let at = z .args .at in
@@ -75,18 +77,18 @@ labelled-at-shared-slice-read-t16 t c =
     let q : kindOf (getD s at 0) ≡ OfFormula Proposition = sym (c .before .before .before .before .before .before .kind-of .ensures) ∙ c .before .before .before .before .k .given .1 ∙ ap OfFormula (c .before .enum-told .given .1) in
     good-body s at g q .0
 
-labelled-at-cast-t17 : (t : ℕ) → labelled-at-lts.Need-cast-t17 (calls t) (labelled-at-at t) labelled-at.Post
-labelled-at-cast-t17 t c =
+labelled-at-cast-t18 : (t : ℕ) → labelled-at-lts.Need-cast-t18 (calls t) (labelled-at-at t) labelled-at.Post
+labelled-at-cast-t18 t c =
     let z = c .before .before .before .before .before .before .before .before .before .before in
     omega (arith, c .shared-slice-known4 .given (z .args .at + 1))
 
-labelled-at-mul-t18 : (t : ℕ) → labelled-at-lts.Need-mul-t18 (calls t) (labelled-at-at t) labelled-at.Post
-labelled-at-mul-t18 t c =
+labelled-at-mul-t19 : (t : ℕ) → labelled-at-lts.Need-mul-t19 (calls t) (labelled-at-at t) labelled-at.Post
+labelled-at-mul-t19 t c =
     let z = c .before .before .before .before .before .before .before .before .before .before in
     record { fits = omega (arith, c .shared-slice-known4 .given (z .args .at + 1)) }
 
-labelled-at-shared-slice-read-t20 : (t : ℕ) → labelled-at-lts.Need-shared-slice-read-t20 (calls t) (labelled-at-at t) labelled-at.Post
-labelled-at-shared-slice-read-t20 t c =
+labelled-at-shared-slice-read-t21 : (t : ℕ) → labelled-at-lts.Need-shared-slice-read-t21 (calls t) (labelled-at-at t) labelled-at.Post
+labelled-at-shared-slice-read-t21 t c =
     let z = c .before .before .before .before .before .before .before .before .before .before .before in
     let s = z .args .rule .now in
     let at = z .args .at in
@@ -96,8 +98,8 @@ labelled-at-shared-slice-read-t20 t c =
     let n = z .pre .1 .1 .inside in
     omega arith
 
-labelled-at-add-t21 : (t : ℕ) → labelled-at-lts.Need-add-t21 (calls t) (labelled-at-at t) labelled-at.Post
-labelled-at-add-t21 t c =
+labelled-at-add-t22 : (t : ℕ) → labelled-at-lts.Need-add-t22 (calls t) (labelled-at-at t) labelled-at.Post
+labelled-at-add-t22 t c =
     let z = c .before .before .before .before .before .before .before .before .before .before .before in
     let s = z .args .rule .now in
     let at = z .args .at in
@@ -109,8 +111,8 @@ labelled-at-add-t21 t c =
 labelled-at-enum-told-2 : (t : ℕ) → labelled-at-lts.Need-enum-told-2 (calls t) (labelled-at-at t) labelled-at.Post
 labelled-at-enum-told-2 t c = search needs
 
-labelled-at-add-t23 : (t : ℕ) → labelled-at-lts.Need-add-t23 (calls t) (labelled-at-at t) labelled-at.Post
-labelled-at-add-t23 t c =
+labelled-at-add-t24 : (t : ℕ) → labelled-at-lts.Need-add-t24 (calls t) (labelled-at-at t) labelled-at.Post
+labelled-at-add-t24 t c =
     let z = c .before .before .before .before .before .before .before .before .before in
     let s = z .args .rule .now in
     let at = z .args .at in
@@ -121,8 +123,8 @@ labelled-at-add-t23 t c =
 labelled-at-enum-told-3 : (t : ℕ) → labelled-at-lts.Need-enum-told-3 (calls t) (labelled-at-at t) labelled-at.Post
 labelled-at-enum-told-3 t c = search needs
 
-labelled-at-add-t24 : (t : ℕ) → labelled-at-lts.Need-add-t24 (calls t) (labelled-at-at t) labelled-at.Post
-labelled-at-add-t24 t c =
+labelled-at-add-t25 : (t : ℕ) → labelled-at-lts.Need-add-t25 (calls t) (labelled-at-at t) labelled-at.Post
+labelled-at-add-t25 t c =
     let z = c .before .before .before .before .before .before .before .before .before in
     let s = z .args .rule .now in
     let at = z .args .at in
@@ -133,8 +135,8 @@ labelled-at-add-t24 t c =
 labelled-at-enum-told-4 : (t : ℕ) → labelled-at-lts.Need-enum-told-4 (calls t) (labelled-at-at t) labelled-at.Post
 labelled-at-enum-told-4 t c = search needs
 
-labelled-at-add-labelled-at : (t : ℕ) → labelled-at-lts.Need-add-labelled-at (calls t) (labelled-at-at t) labelled-at.Post
-labelled-at-add-labelled-at t c =
+labelled-at-add-past-nots : (t : ℕ) → labelled-at-lts.Need-add-past-nots (calls t) (labelled-at-at t) labelled-at.Post
+labelled-at-add-past-nots t c =
     let z = c .before .before .before .before .before .before .before .before .before in
     let s = z .args .rule .now in
     let at = z .args .at in
@@ -142,21 +144,37 @@ labelled-at-add-labelled-at t c =
     let l = formula-here s at g in
     omega arith
 
-labelled-at-labelled-at-requires : (t : ℕ) → labelled-at-lts.Need-labelled-at-requires (calls t) (labelled-at-at t) labelled-at.Post
-labelled-at-labelled-at-requires t c κs =
+labelled-at-past-nots-requires : (t : ℕ) → labelled-at-lts.Need-past-nots-requires (calls t) (labelled-at-at t) labelled-at.Post
+labelled-at-past-nots-requires t c κs =
     let z = c .before .before .before .before .before .before .before .before .before in
     let s = z .args .rule .now in
     let at = z .args .at in
     let g = z .pre .1 .0 in
-    let l = formula-here s at g in
     let q : kindOf (getD s at 0) ≡ OfFormula Not = sym (c .before .before .before .before .before .kind-of .ensures) ∙ c .before .before .before .k .given .1 ∙ ap OfFormula (c .enum-told4 .given .1) in
-    (omega arith, (good-neg s at g q, z .pre .1 .1))
+    good-neg s at g q
+
+labelled-at-labelled-at-requires : (t : ℕ) → labelled-at-lts.Need-labelled-at-requires (calls t) (labelled-at-at t) labelled-at.Post
+labelled-at-labelled-at-requires t c κs =
+    let z = c .before .before .before .before .before .before .before .before .before .before in
+    let s = z .args .rule .now in
+    let at = z .args .at in
+    let g = z .pre .1 .0 in
+    let l = formula-here s at g in
+    let q : kindOf (getD s at 0) ≡ OfFormula Not = sym (c .before .before .before .before .before .before .kind-of .ensures) ∙ c .before .before .before .before .k .given .1 ∙ ap OfFormula (c .before .enum-told4 .given .1) in
+    let h = good-neg s at g q in
+    let n = c .past-nots .ensures in
+    let m = n .1 .under (h .0) (h .1) (h .2) in
+    let u = n .0 in
+    (omega arith, ((m .0, h .1, m .1), z .pre .1 .1))
+
+labelled-at-flip-requires : (t : ℕ) → labelled-at-lts.Need-flip-requires (calls t) (labelled-at-at t) labelled-at.Post
+labelled-at-flip-requires t c κs = search needs
 
 labelled-at-enum-known-k-2 : (t : ℕ) → labelled-at-lts.Need-enum-known-k-2 (calls t) (labelled-at-at t) labelled-at.Post
 labelled-at-enum-known-k-2 t c = search needs
 
-labelled-at-add-labelled-at-2 : (t : ℕ) → labelled-at-lts.Need-add-labelled-at-2 (calls t) (labelled-at-at t) labelled-at.Post
-labelled-at-add-labelled-at-2 t c =
+labelled-at-add-labelled-at : (t : ℕ) → labelled-at-lts.Need-add-labelled-at (calls t) (labelled-at-at t) labelled-at.Post
+labelled-at-add-labelled-at t c =
     let z = c .before .before .before .before .before .before .before .before .before .before in
     let s = z .args .rule .now in
     let at = z .args .at in
@@ -214,11 +232,11 @@ labelled-at-returns-4 t c =
 
 labelled-at-returns-5 : (t : ℕ) → labelled-at-lts.Need-returns-5 (calls t) (labelled-at-at t) labelled-at.Post
 labelled-at-returns-5 t c =
-    let z = c .before .before .before .before .before .before .before .before .before .before .before in
+    let z = c .before .before .before .before .before .before .before .before .before .before .before .before .before in
     let s = z .args .rule .now in
     let at = z .args .at in
-    let q : kindOf (getD s at 0) ≡ OfFormula Not = sym (c .before .before .before .before .before .before .before .kind-of .ensures) ∙ c .before .before .before .before .before .k .given .1 ∙ ap OfFormula (c .before .before .enum-told4 .given .1) in
-    l-neg s at q (c .before .labelled-at .result) (c .before .labelled-at .ensures)
+    let q : kindOf (getD s at 0) ≡ OfFormula Not = sym (c .before .before .before .before .before .before .before .before .before .kind-of .ensures) ∙ c .before .before .before .before .before .before .before .k .given .1 ∙ ap OfFormula (c .before .before .before .before .enum-told4 .given .1) in
+    l-neg s at q (c .before .before .before .past-nots .ensures .1) (c .before .before .labelled-at .result) (c .before .before .labelled-at .ensures) _ (c .flip .ensures)
 
 labelled-at-returns-6 : (t : ℕ) → labelled-at-lts.Need-returns-6 (calls t) (labelled-at-at t) labelled-at.Post
 labelled-at-returns-6 t c =
@@ -238,20 +256,22 @@ pub +labelled-at-spec : {M : Type 1} → statement M
     (labelled-at-returns t)
     (labelled-at-enum-told t)
     (labelled-at-add-body t)
-    (labelled-at-shared-slice-read-t16 t)
-    (labelled-at-cast-t17 t)
-    (labelled-at-mul-t18 t)
-    (labelled-at-shared-slice-read-t20 t)
-    (labelled-at-add-t21 t)
+    (labelled-at-shared-slice-read-t17 t)
+    (labelled-at-cast-t18 t)
+    (labelled-at-mul-t19 t)
+    (labelled-at-shared-slice-read-t21 t)
+    (labelled-at-add-t22 t)
     (labelled-at-enum-told-2 t)
-    (labelled-at-add-t23 t)
-    (labelled-at-enum-told-3 t)
     (labelled-at-add-t24 t)
+    (labelled-at-enum-told-3 t)
+    (labelled-at-add-t25 t)
     (labelled-at-enum-told-4 t)
-    (labelled-at-add-labelled-at t)
+    (labelled-at-add-past-nots t)
+    (labelled-at-past-nots-requires t)
     (labelled-at-labelled-at-requires t)
+    (labelled-at-flip-requires t)
     (labelled-at-enum-known-k-2 t)
-    (labelled-at-add-labelled-at-2 t)
+    (labelled-at-add-labelled-at t)
     (labelled-at-labelled-at-requires-2 t)
     (labelled-at-labelled-at-requires-3 t)
     (labelled-at-join-labels-requires t)
