@@ -88,8 +88,8 @@ pub fn row_parts(c: Counts, a: &Answers) -> Answers
     if c.high == 0 {
         return none;
     }
-    let rest = row_parts(after_one(c), a);
-    let some = pair_parts(Pair::Then, a, &rest);
+    let after = row_parts(after_one(c), a);
+    let some = pair_parts(Pair::Then, a, &after);
     if c.low == 0 {
         return pair_parts(Pair::Either, &some, &none);
     }
