@@ -107,11 +107,15 @@ fn exchanged_fields_and_parameters_are_seen() {
             "work1: &mut [u16], work2: &mut [u16]",
             "work2: &mut [u16], work1: &mut [u16]",
         ),
+        (
+            "table: &mut [u64], weight: u64, finals: u64",
+            "table: &mut [u64], finals: u64, weight: u64",
+        ),
         ("letter: u8", "letter: u64"),
         ("pub matched: u64", "pub matched: u32"),
         ("text: &[u8], out: &mut [u8]", "text: &[u8], out: &[u8]"),
     ] {
-        assert_eq!(source.matches(ours).count(), 1, "{ours}");
+        assert!(source.contains(ours), "{ours}");
         let changed = interface(&source.replace(ours, exchanged));
         assert_ne!(changed.unlike(&header::interface()), [""; 0], "{exchanged}");
     }
