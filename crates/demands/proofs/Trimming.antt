@@ -55,7 +55,7 @@ rule-tables-trimmed r t t′ f a b (trims.short-table l e) = absurd (omega (arit
 rule-tables-trimmed r t t′ f a b (trims.no-table l x e) = absurd (trims-once.no-fault (built-stands r t f (is b .table) (is b .light) (b .words)) x)
 rule-tables-trimmed r t t′ f a b (trims.the-trimmed {n′ = m} {f′ = g} l s z) =
     let v = trimmed-serves r t f (is b .table) (is b .light) (b .words) z in
-    (m, g, refl, λ w h. (v .sound w h, v .complete w h))
+    (m, g, refl, v, λ w h. (v .sound w h, v .complete w h))
 
 -- ---- the search over the trimmed table
 

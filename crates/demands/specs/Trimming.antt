@@ -13,7 +13,7 @@ use Rattle.rules.specs.Answer.{knownOf}
 use Rattle.tables.specs.Table.{tableOf, Accepts}
 use Rattle.tables.specs.Beyond.{Beyond}
 use Rattle.tables.specs.IsTable.{Words}
-use Rattle.tables.specs.Promise.{Letters}
+use Rattle.tables.specs.Promise.{Letters, Serves}
 use Rattle.trims.specs.declared.TrimAnswer.{TrimAnswer}
 use Rattle.trims.specs.Kept.{Kept}
 use Rattle.trims.specs.Answer as trims
@@ -62,10 +62,10 @@ TrimRefusedExactly = (t t′ : List ℕ) (n f : ℕ) (a : trims.Result) (k p : �
 abbrev pub RefusedTrimKeeps : Type 0
 RefusedTrimKeeps = (t t′ : List ℕ) (n f k p : ℕ) → trims.TrimRight t t′ n f (trims.refused k p) → t′ ≡ t
 
--- a rule's table is not refused, and accepts what Definition 2 accepts when it is trimmed
+-- a rule's table is not refused; trimmed, it serves the rule, and so accepts what Definition 2 accepts
 abbrev pub RuleTablesTrimmed : Type 0
 RuleTablesTrimmed = (r : Rule) (t t′ : List ℕ) (f : ℕ) (a : trims.Result) → TableFor r t f → trims.TrimRight t t′ (weightOf r) f a
-    → (m : ℕ) × (g : ℕ) × (a ≡ trims.trimmed m g) × ((w : List ℕ) → Letters w → Accepts (tableOf t′ m g) w ↔ Sat r w)
+    → (m : ℕ) × (g : ℕ) × (a ≡ trims.trimmed m g) × Serves (tableOf t′ m g) r × ((w : List ℕ) → Letters w → Accepts (tableOf t′ m g) w ↔ Sat r w)
 
 -- no second answer fits, and no second content of the slice
 abbrev pub OneTrim : Type 0

@@ -69,9 +69,8 @@ pub fn run(seed: u64) {
 /// Prints what trimming saves: the weights of the rules' tables, and the pairs of the searches.
 fn sizes(cases: &[Case]) {
     println!();
-    println!(
-        "`trimmed` is the search that trims the table before it looks. What it has before it:"
-    );
+    println!("`trimmed` is the search that trims the table before it looks. The weights of the tables and the");
+    println!("pairs of the searches, with tables as they are built and as they are trimmed:");
     println!();
     println!(
         "{:<20}{:>10}{:>10}{:>10}{:>12}",

@@ -2,7 +2,7 @@
 
 use crate::timing::{micros, several};
 use cases::{heavy, models};
-use gongcollar::{Workspace, ENTRIES};
+use gongcollar::{Refusal, Searched, Workspace, ENTRIES};
 use std::fmt::Debug;
 
 const CALLS: usize = 25;
@@ -88,6 +88,10 @@ fn searches() -> bool {
     for (name, rule, model) in &cases {
         same &= search(name, rule, model);
     }
+    heading("search over the trimmed table");
+    for (name, rule, model) in &cases {
+        same &= search_trimmed(name, rule, model);
+    }
     same
 }
 
@@ -108,14 +112,30 @@ type Said = Option<(Option<usize>, u64)>;
 
 fn search(name: &str, rule: &[u8], model: &[u8]) -> bool {
     let mut workspace = Workspace::new();
-    let mut proved = || -> Said {
-        let searched = workspace.search(rule, model).ok()?;
-        Some((searched.run.map(<[u8]>::len), searched.pairs))
-    };
-    let plain = || -> Said {
-        let searched = plain::search(rule, model, [ENTRIES; 4]).ok()?;
-        Some((searched.run.map(|run| run.len()), searched.pairs))
-    };
+    let proved = || ours(workspace.search(rule, model));
+    let plain = || theirs(plain::search(rule, model, [ENTRIES; 4]));
+    both(name, proved, plain)
+}
+
+fn search_trimmed(name: &str, rule: &[u8], model: &[u8]) -> bool {
+    let mut workspace = Workspace::new();
+    let proved = || ours(workspace.search_trimmed(rule, model));
+    let plain = || theirs(plain::search_trimmed(rule, model, [ENTRIES; 4]));
+    both(name, proved, plain)
+}
+
+fn ours(searched: Result<Searched<'_>, Refusal>) -> Said {
+    let searched = searched.ok()?;
+    Some((searched.run.map(<[u8]>::len), searched.pairs))
+}
+
+fn theirs(searched: Result<plain::Searched, plain::Refusal>) -> Said {
+    let searched = searched.ok()?;
+    Some((searched.run.map(|run| run.len()), searched.pairs))
+}
+
+/// One search through both libraries, with what it says.
+fn both(name: &str, mut proved: impl FnMut() -> Said, plain: impl FnMut() -> Said) -> bool {
     let name = format!("{name}: {}", told(proved()));
     row(&name, proved, plain)
 }

@@ -128,9 +128,13 @@ fn exchanged_fields_and_parameters_are_seen() {
             "pub matches: u64, pub walker: GcWalker",
             "pub walker: GcWalker, pub matches: u64",
         ),
+        (
+            "table: &mut [u64], weight: u64, finals: u64",
+            "table: &mut [u64], finals: u64, weight: u64",
+        ),
         ("text: &[u8], out: &mut [u8]", "text: &[u8], out: &[u8]"),
     ] {
-        assert_eq!(source.matches(ours).count(), 1, "{ours}");
+        assert!(source.contains(ours), "{ours}");
         let changed = interface(&source.replace(ours, exchanged));
         assert_ne!(changed.unlike(&header::interface()), [""; 0], "{exchanged}");
     }
