@@ -126,6 +126,67 @@ fn broken() {
     show(&[b'('; LONGEST_TEXT]);
 }
 
+// A text with counts: its bytes, and these bytes written as a text again.
+fn counted(text: &[u8]) {
+    show(text);
+    let mut bytes = [0u8; TEXT_ROOM];
+    let answer = texts::read_text(text, &mut bytes);
+    match answer {
+        TextAnswer::Given { long, rule: _ } => {
+            if long <= bytes.len() {
+                write_back(&bytes[..long], &mut [0u8; TEXT_ROOM]);
+            }
+        }
+        TextAnswer::Refused(x) => refused(x.number(), x.place()),
+    }
+}
+
+// From three to five expiries, in a row and wherever they stand; the smallest and the largest counts; a formula and a rule as operand.
+fn counts() {
+    counted(b"{p0}[*3..5]");
+    counted(b"p0[=3..5]");
+    counted(b"{p0}[*0..0]");
+    counted(b"p0[=0..0]");
+    counted(b"{p0}[*15..15]");
+    counted(b"p0[=15..15]");
+    counted(b"p0[=1..1]");
+    counted(b"p0[=1..10]");
+    counted(b"p0[=9..12]");
+    counted(b"{[*0]}[*10..11]");
+    counted(b"!(p0|p1)[=2..14]");
+    counted(b"{{{p0}[*1..2];p1[=0..1]}}[*0..1]");
+}
+
+// Counts go on as far as some pair of counts has their characters.
+fn broken_counts() {
+    show(b"p0[");
+    show(b"p0[=");
+    show(b"p0[*");
+    show(b"p0[=2..1");
+    show(b"p0[=2..1]");
+    show(b"p0[=3..2]");
+    show(b"p0[=16");
+    show(b"p0[=01");
+    show(b"p0[=12..11]");
+    show(b"p0[=2..01]");
+    show(b"p0[=2..16]");
+    show(b"p0[=2]");
+    show(b"p0[=2.]");
+    show(b"p0[=2...]");
+    show(b"p0[=..]");
+    show(b"p0[=1..1");
+    show(b"p0[=1..1x");
+    show(b"p0[=0..9]]");
+    show(b"p0[=0..9][=0..9]");
+    show(b"[*0][");
+    show(b"{p0}[*0]");
+    show(b"{p0}[*2..1]");
+    show(b"{p0}[=1..2]");
+    show(b"{p0[=1..2]}");
+    show(b"(p0[=1..2]&p1)");
+    show(b"{p0}[*1..2");
+}
+
 fn limits() {
     show(&[b'{'; 1281]);
     show(&MANY_BYTES);
@@ -149,6 +210,8 @@ fn written() {
 fn main() {
     forms();
     broken();
+    counts();
+    broken_counts();
     limits();
     written();
 }

@@ -1,4 +1,5 @@
 pub mod Reading
 pub mod Values
+pub mod Wide
 pub mod Places
 pub mod Walks

@@ -1,11 +1,20 @@
-// Reading a text: characters are taken one after another, and the bytes of what they say are written. A kind byte stands before its operands,
-// and is known after the first of them: its place is left free until then.
+// Reading a text: characters are taken one after another, and the bytes of what they say are written. What stands before an operand is known after it:
+// the place of the longest head is left free until then, and a shorter one has fillers, which are taken out when all is read.
 ghost use Prim.Native.Nat.{_+_, _*_, _≤_, _<_};
 ghost use lib.ListN.{length};
-ghost use Rattle.texts.specs.inner.Places.{KindTaken, DigitTaken, FormulaTaken, JoinTaken, RuleTaken, BraceTaken, Closes};
+ghost use mathlib.Core.Path.{_≡_};
+ghost use lib.ListN.{take};
+ghost use Rattle.texts.specs.inner.Wide.{headLength, headBytes, squeezed};
+ghost use Rattle.texts.specs.inner.Places.{KindTaken, DigitTaken, FormulaTaken, JoinTaken, LetterTaken, RuleTaken, BraceTaken, Closes, Heads};
+ghost use Rattle.writing.specs.Wrote.{Wrote};
+use crate::signs::FILLER;
+use crate::signs::Head;
+use crate::signs::Headed;
 use crate::signs::NONE;
 use crate::signs::Sign;
 use crate::signs::junction_at;
+use crate::signs::occurrence_at;
+use crate::signs::plain;
 use crate::signs::sign_at;
 use crate::words::Ended;
 use crate::words::stands;
@@ -20,9 +29,10 @@ const FALSITY: u8 = 0x03;
 
 const NOT: u8 = 0x04;
 
-const LETTER: u8 = 0x10;
-
 const EMPTY: u8 = 0x11;
+
+// A kind and two counts.
+const HEAD: usize = 3;
 
 // What follows the first character of a word.
 const RUE: [u8; 3] = *b"rue";
@@ -128,9 +138,44 @@ fn join_in(text: &[u8], at: usize, bytes: &mut [u8], to: usize) -> Taken
     }
 }
 
+// The three bytes of a head.
+fn put_head(bytes: &mut [u8], to: usize, head: Head) -> usize
+    requires { ⌜ to + headLength ≤ length (now bytes) ⌝ }
+    ensures { λ r. ⌜ Wrote (headBytes head) (now (bytes .entry)) to (now (bytes .exit)) r ⌝ }
+{
+    let low = put_byte(bytes, to, head.kind);
+    let high = put_byte(bytes, low, head.low);
+    put_byte(bytes, high, head.high)
+}
+
+// The head of an operand whose bytes end at `past`, by what follows the operand in the text.
+fn headed(bytes: &mut [u8], to: usize, after: Headed, past: usize) -> Taken
+    requires { ⌜ to + headLength ≤ length (now bytes) ⌝ }
+    ensures { λ r. ⌜ Heads (now (bytes .entry)) to after past (now (bytes .exit)) r ⌝ }
+{
+    match after {
+        Headed::Broken(p) => Taken::Broken(p),
+        Headed::By { head, end } => {
+            put_head(bytes, to, head);
+            Taken::Upto { end, past }
+        }
+    }
+}
+
+// A formula that stands as a rule, and counts if they follow.
+fn letter_in(text: &[u8], at: usize, bytes: &mut [u8], to: usize) -> Taken
+    requires { ⌜ (at < length (now text)) × (to + 1 + 3 * length (now text) ≤ 3 * at + length (now bytes)) ⌝ }
+    ensures { λ r. ⌜ LetterTaken (now (text .entry)) at (now (bytes .entry)) to (now (bytes .exit)) r ⌝ }
+{
+    match formula_in(text, at, bytes, to + HEAD) {
+        Taken::Broken(p) => Taken::Broken(p),
+        Taken::Upto { end, past } => headed(bytes, to, occurrence_at(text, end), past),
+    }
+}
+
 // A rule.
 pub fn rule_in(text: &[u8], at: usize, bytes: &mut [u8], to: usize) -> Taken
-    requires { ⌜ to + 2 * length (now text) ≤ 2 * at + length (now bytes) ⌝ }
+    requires { ⌜ to + 1 + 3 * length (now text) ≤ 3 * at + length (now bytes) ⌝ }
     ensures { λ r. ⌜ RuleTaken (now (text .entry)) at (now (bytes .entry)) to (now (bytes .exit)) r ⌝ }
 {
     if text.len() <= at {
@@ -142,27 +187,40 @@ pub fn rule_in(text: &[u8], at: usize, bytes: &mut [u8], to: usize) -> Taken
     if stands(text, at, b'{') {
         return brace_in(text, at + 1, bytes, to);
     }
-    let past = put_byte(bytes, to, LETTER);
-    formula_in(text, at, bytes, past)
+    letter_in(text, at, bytes, to)
 }
 
 // What stands after `{`.
 fn brace_in(text: &[u8], at: usize, bytes: &mut [u8], to: usize) -> Taken
-    requires { ⌜ (at ≤ length (now text)) × (to + 2 + 2 * length (now text) ≤ 2 * at + length (now bytes)) ⌝ }
+    requires { ⌜ (at ≤ length (now text)) × (to + headLength + 1 + 3 * length (now text) ≤ 3 * at + length (now bytes)) ⌝ }
     ensures { λ r. ⌜ BraceTaken (now (text .entry)) at (now (bytes .entry)) to (now (bytes .exit)) r ⌝ }
 {
-    match rule_in(text, at, bytes, to + 1) {
+    match rule_in(text, at, bytes, to + HEAD) {
         Taken::Broken(p) => Taken::Broken(p),
         Taken::Upto { end, past } => match sign_at(text, end) {
-            Sign::Broken(p) => Taken::Broken(p),
-            Sign::Repetition { kind, end: after } => {
-                put_byte(bytes, to, kind);
-                Taken::Upto { end: after, past }
-            }
+            Sign::Other(after) => headed(bytes, to, after, past),
             Sign::Operator { kind, end: after } => {
-                put_byte(bytes, to, kind);
+                put_head(bytes, to, plain(kind));
                 closed(text, rule_in(text, after, bytes, past), b'}')
             }
         },
     }
+}
+
+// Takes the fillers out of the first `long` bytes; the answer is how many are left.
+pub fn squeeze(bytes: &mut [u8], long: usize) -> usize
+    requires { ⌜ long ≤ length (now bytes) ⌝ }
+    ensures { λ r. ⌜ (take r (now (bytes .exit)) ≡ squeezed (take long (now (bytes .entry)))) × (r ≤ length (now (bytes .exit))) ⌝ }
+{
+    let mut to = 0;
+    let mut i = 0;
+    while i < long {
+        let byte = bytes[i];
+        if byte != FILLER {
+            bytes[to] = byte;
+            to += 1;
+        }
+        i += 1;
+    }
+    to
 }

@@ -3,11 +3,12 @@ ghost use Prim.Native.Nat.{_+_, _*_, _≤_};
 ghost use mathlib.Core.List.{[], _∷_};
 ghost use lib.ListN.{length};
 ghost use Rattle.rules.specs.Places.{GoodFormula, GoodRule};
-ghost use Rattle.texts.specs.Text.{digitChar, pairSign, junctionChar};
-ghost use Rattle.texts.specs.inner.Reading.{repeated};
-ghost use Rattle.texts.specs.inner.Values.{tailText};
+ghost use Rattle.rules.specs.Encoding.{CountsFit};
+ghost use Rattle.texts.specs.Text.{digitChar, pairSign, junctionChar, repeatChar, countsText};
 ghost use Rattle.writing.specs.Wrote.{Wrote};
 ghost use Rattle.texts.specs.inner.Walks.{FormulaPut, RulePut};
+use rules::counts::Counts;
+use rules::counts::counts_at;
 use rules::kinds::FormulaKind;
 use rules::kinds::Junction;
 use rules::kinds::Kind;
@@ -16,6 +17,7 @@ use rules::kinds::Repeat;
 use rules::kinds::RuleKind;
 use rules::kinds::kind_of;
 use writing::put_byte;
+use writing::put_number;
 use writing::put_word;
 
 const TRUE: [u8; 4] = *b"true";
@@ -29,6 +31,13 @@ const BOTH: [u8; 2] = *b"&&";
 const STAR: [u8; 4] = *b"}[*]";
 
 const PLUS: [u8; 4] = *b"}[+]";
+
+// What stands before and between the counts.
+const PARTS: [u8; 3] = *b"}[*";
+
+const LETTERS: [u8; 2] = *b"[=";
+
+const DOTS: [u8; 2] = *b"..";
 
 // The place after what stands in the bytes, and the place after its text.
 pub struct Put {
@@ -71,12 +80,23 @@ fn put_pair(out: &mut [u8], to: usize, p: Pair) -> usize
 // What follows the operand of a repetition.
 fn put_repeat(out: &mut [u8], to: usize, p: Repeat) -> usize
     requires { ⌜ to + 4 ≤ length (now out) ⌝ }
-    ensures { λ r. ⌜ Wrote (tailText (repeated p)) (now (out .entry)) to (now (out .exit)) r ⌝ }
+    ensures { λ r. ⌜ Wrote (125 ∷ 91 ∷ repeatChar p ∷ 93 ∷ []) (now (out .entry)) to (now (out .exit)) r ⌝ }
 {
     match p {
         Repeat::Star => put_word(out, to, &STAR),
         Repeat::Plus => put_word(out, to, &PLUS),
     }
+}
+
+// Both counts and what closes them.
+fn put_counts(out: &mut [u8], to: usize, counts: Counts) -> usize
+    requires { ⌜ CountsFit (counts .low) (counts .high) × (to + 7 ≤ length (now out)) ⌝ }
+    ensures { λ r. ⌜ Wrote (countsText (counts .low) (counts .high)) (now (out .entry)) to (now (out .exit)) r ⌝ }
+{
+    let low = put_number(out, to, counts.low as u64);
+    let dots = put_word(out, low, &DOTS);
+    let high = put_number(out, dots, counts.high as u64);
+    put_byte(out, high, b']')
 }
 
 // The text of the formula that stands at `at`.
@@ -144,6 +164,19 @@ pub fn put_rule(rule: &[u8], at: usize, out: &mut [u8], to: usize) -> Put
             let a = put_rule(rule, at + 1, out, open);
             let past = put_repeat(out, a.past, p);
             Put { end: a.end, past }
+        }
+        RuleKind::Counted => {
+            let open = put_byte(out, to, b'{');
+            let a = put_rule(rule, at + 3, out, open);
+            let sign = put_word(out, a.past, &PARTS);
+            let past = put_counts(out, sign, counts_at(rule, at));
+            Put { end: a.end, past }
+        }
+        RuleKind::Occurs => {
+            let f = put_formula(rule, at + 3, out, to);
+            let sign = put_word(out, f.past, &LETTERS);
+            let past = put_counts(out, sign, counts_at(rule, at));
+            Put { end: f.end, past }
         }
     }
 }

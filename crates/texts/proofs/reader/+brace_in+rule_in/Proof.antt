@@ -1,16 +1,16 @@
 -- The cycle of `rule_in` and `brace_in`: the measure is twice the characters left, and one more after "{". Assumes nothing.
 use Prim.Native.Nat.{_+_, _-_, _*_}
 use native.Mathlib.Omega.{arith}
-use mathlib.Core.Path.{refl, subst}
+use mathlib.Core.Path.{refl}
 use lib.ListN.{length}
-use Rattle.rules.specs.Encoding.{spell}
 use Rattle.texts.specs.inner.Reading.{rule}
-use Rattle.texts.specs.inner.Places.{SignAt, took, broke}
-use Rattle.texts.proofs.Complete.{over-rule}
+use Rattle.texts.specs.inner.Wide.{wide}
+use Rattle.texts.specs.inner.Places.{broke}
 use Rattle.texts.proofs.Lengths.{sign-length}
 use Rattle.texts.proofs.Taking.{as-upto, as-broken, then-sign}
-use Rattle.texts.proofs.Operands.{brace-first, brace-none, brace-repeat, brace-pair, rule-bounds}
-use Rattle.texts.proofs.Arms.{arm-empty, arm-brace, arm-letter, ended}
+use Rattle.texts.proofs.AfterOperand.{as-operator}
+use Rattle.texts.proofs.Operands.{brace-first, brace-other, brace-pair, rule-bounds}
+use Rattle.texts.proofs.Arms.{arm-empty, arm-brace, arm-letter, no-rule}
 use borrow.Author.Needs.{needs}
 use Prim.Native.Nat.{ℕ, _<_}
 use borrow.Fn.Kinds.{In}
@@ -22,10 +22,12 @@ use Rattle.texts.proofs.reader.rule_in.Reads as rule-in
 use Rattle.texts.proofs.reader.rule_in.Kinds as rule-in-kinds
 use Rattle.texts.proofs.reader.+brace_in+rule_in.Lts-rule_in as rule-in-lts
 use Rattle.texts.proofs.reader.closed.Reads as closed-reads
-use Rattle.texts.proofs.reader.formula_in.Reads as formula-in-reads
+use Rattle.texts.proofs.reader.headed.Reads as headed-reads
 use Rattle.texts.proofs.reader.kind_in.Reads as kind-in-reads
 use Rattle.texts.proofs.signs.sign_at.Reads as sign-at-reads
-use Rattle.writing.proofs.put_byte.Reads as put-byte-reads
+use Rattle.texts.proofs.reader.letter_in.Reads as letter-in-reads
+use Rattle.texts.proofs.signs.plain.Reads as plain-reads
+use Rattle.texts.proofs.reader.put_head.Reads as put-head-reads
 use Rattle.texts.proofs.words.stands.Reads as stands-reads
 use Rattle.texts.proofs.reader.+brace_in+rule_in.{statement}
 use Rattle.texts.proofs.reader.+brace_in+rule_in.Tie.{close}
@@ -50,7 +52,7 @@ abbrev rule-in-below : ℕ → In 2 rule-in-kinds.ps
 rule-in-below t = and 2 rule-in-kinds.ps (falls 2 rule-in-kinds.ps _<_ μ-rule-in t) rule-in.Pre
 
 abbrev brace-in-calls : ℕ → brace-in-lts.Claims
-brace-in-calls t = (rule-in-below t, rule-in.Post, sign-at-reads.Asked, sign-at-reads.Learnt, put-byte-reads.Asked, put-byte-reads.Learnt, closed-reads.Asked, closed-reads.Learnt)
+brace-in-calls t = (rule-in-below t, rule-in.Post, sign-at-reads.Asked, sign-at-reads.Learnt, headed-reads.Asked, headed-reads.Learnt, plain-reads.Asked, plain-reads.Learnt, put-head-reads.Asked, put-head-reads.Learnt, closed-reads.Asked, closed-reads.Learnt)
 
 brace-in-add-rule-in : (t : ℕ) → brace-in-lts.Need-add-rule-in (brace-in-calls t) (brace-in-at t) brace-in.Post
 brace-in-add-rule-in t c = let p = c .before .before .before .pre .1 in omega arith
@@ -67,36 +69,31 @@ brace-in-enum-known-end t c = search needs
 brace-in-sign-at-requires : (t : ℕ) → brace-in-lts.Need-sign-at-requires (brace-in-calls t) (brace-in-at t) brace-in.Post
 brace-in-sign-at-requires t c κs = search needs
 
-brace-in-enum-known-p-2 : (t : ℕ) → brace-in-lts.Need-enum-known-p-2 (brace-in-calls t) (brace-in-at t) brace-in.Post
-brace-in-enum-known-p-2 t c = search needs
+brace-in-enum-known-after : (t : ℕ) → brace-in-lts.Need-enum-known-after (brace-in-calls t) (brace-in-at t) brace-in.Post
+brace-in-enum-known-after t c = search needs
+
+brace-in-headed-requires : (t : ℕ) → brace-in-lts.Need-headed-requires (brace-in-calls t) (brace-in-at t) brace-in.Post
+brace-in-headed-requires t c κs = let p = c .before .before .before .before .before .before .before .before .before .before .before .before .before .before .pre .1 in let w = as-upto (c .before .before .before .before .before .before .before .before .before .before .rule-in .ensures) _ _ (c .before .before .before .before .before .before .end .given .1) .wrote in omega arith
 
 brace-in-enum-known-kind : (t : ℕ) → brace-in-lts.Need-enum-known-kind (brace-in-calls t) (brace-in-at t) brace-in.Post
 brace-in-enum-known-kind t c = search needs
 
-brace-in-put-byte-requires : (t : ℕ) → brace-in-lts.Need-put-byte-requires (brace-in-calls t) (brace-in-at t) brace-in.Post
-brace-in-put-byte-requires t c κs =
-    let z = c .before .before .before .before .before .before .before .before .before .before .before .before .before .before in
-    let p = z .pre .1 in
-    omega arith
+brace-in-plain-requires : (t : ℕ) → brace-in-lts.Need-plain-requires (brace-in-calls t) (brace-in-at t) brace-in.Post
+brace-in-plain-requires t c κs = search needs
 
-brace-in-enum-known-kind-2 : (t : ℕ) → brace-in-lts.Need-enum-known-kind-2 (brace-in-calls t) (brace-in-at t) brace-in.Post
-brace-in-enum-known-kind-2 t c = search needs
-
-brace-in-put-byte-requires-2 : (t : ℕ) → brace-in-lts.Need-put-byte-requires-2 (brace-in-calls t) (brace-in-at t) brace-in.Post
-brace-in-put-byte-requires-2 t c κs =
-    let z = c .before .before .before .before .before .before .before .before .before .before .before .before .before .before in
-    let p = z .pre .1 in
-    omega arith
+brace-in-put-head-requires : (t : ℕ) → brace-in-lts.Need-put-head-requires (brace-in-calls t) (brace-in-at t) brace-in.Post
+brace-in-put-head-requires t c κs = let p = c .before .before .before .before .before .before .before .before .before .before .before .before .before .before .before .pre .1 in let w = as-upto (c .before .before .before .before .before .before .before .before .before .before .before .rule-in .ensures) _ _ (c .before .before .before .before .before .before .before .end .given .1) .wrote in omega arith
 
 brace-in-rule-in-requires-2 : (t : ℕ) → brace-in-lts.Need-rule-in-requires-2 (brace-in-calls t) (brace-in-at t) brace-in.Post
 brace-in-rule-in-requires-2 t c κs =
-    let z = c .before .before .before .before .before .before .before .before .before .before .before .before .before .before .before .before .before .before in
-    let x = as-upto (c .before .before .before .before .before .before .before .before .before .before .before .before .before .before .rule-in .ensures) _ _ (c .before .before .before .before .before .before .before .before .before .before .end .given .1) in
+    let z = c .before .before .before .before .before .before .before .before .before .before .before .before .before .before .before .before .before .before .before in
+    let x = as-upto (c .before .before .before .before .before .before .before .before .before .before .before .before .before .before .before .rule-in .ensures) _ _ (c .before .before .before .before .before .before .before .before .before .before .before .end .given .1) in
     let l = rule-bounds _ _ _ _ _ _ _ x in
-    let g = subst (SignAt (z .args .text .now) (c .before .before .before .before .before .before .before .before .before .before .end .given .0 .0)) (c .before .before .before .before .before .before .kind2 .given .1) (c .before .before .before .before .before .before .before .before .sign-at .ensures) in
+    let g = as-operator _ _ _ (c .before .before .before .before .before .before .before .before .before .sign-at .ensures) _ _ (c .before .before .before .before .before .before .before .kind .given .1) in
     let o = g .2 .part in
     let u = sign-length (g .0) in
-    let w = c .before .before .before .put-byte2 .ensures in
+    let w = c .before .before .before .put-head .ensures in
+    let v = x .wrote in
     let p = z .pre .1 in
     (omega arith, omega arith)
 
@@ -108,8 +105,7 @@ brace-in-same-length t c = search needs
 
 brace-in-returns : (t : ℕ) → brace-in-lts.Need-returns (brace-in-calls t) (brace-in-at t) brace-in.Post
 brace-in-returns t c =
-    let z = c .before .before .before .before .before .before .before .before .before in
-    let s = z .args in
+    let s = c .before .before .before .before .before .before .before .before .before .args in
     broke _ refl (brace-first (s .text .now) (s .at) _ (as-broken (c .before .before .before .before .before .rule-in .ensures) _ (c .before .p .given .1)))
 
 brace-in-same-length-2 : (t : ℕ) → brace-in-lts.Need-same-length-2 (brace-in-calls t) (brace-in-at t) brace-in.Post
@@ -117,37 +113,25 @@ brace-in-same-length-2 t c = search needs
 
 brace-in-returns-2 : (t : ℕ) → brace-in-lts.Need-returns-2 (brace-in-calls t) (brace-in-at t) brace-in.Post
 brace-in-returns-2 t c =
-    let z = c .before .before .before .before .before .before .before .before .before .before .before .before .before in
-    let x = as-upto (c .before .before .before .before .before .before .before .before .before .rule-in .ensures) _ _ (c .before .before .before .before .before .end .given .1) in
-    broke _ refl (brace-none _ _ _ _ _ _ _ x _ (subst (SignAt (z .args .text .now) (c .before .before .before .before .before .end .given .0 .0)) (c .before .p2 .given .1) (c .before .before .before .sign-at .ensures)))
+    let p = c .before .before .before .before .before .before .before .before .before .before .before .before .before .before .before .before .before .pre .1 in
+    let x = as-upto (c .before .before .before .before .before .before .before .before .before .before .before .before .before .rule-in .ensures) _ _ (c .before .before .before .before .before .before .before .before .before .end .given .1) in
+    brace-other _ _ _ _ _ _ _ x (omega arith) _ _ _ (c .before .before .before .before .before .before .before .sign-at .ensures) _ (c .before .before .before .before .before .after .given .1) (c .before .before .headed .ensures)
 
 brace-in-same-length-3 : (t : ℕ) → brace-in-lts.Need-same-length-3 (brace-in-calls t) (brace-in-at t) brace-in.Post
 brace-in-same-length-3 t c = search needs
 
 brace-in-returns-3 : (t : ℕ) → brace-in-lts.Need-returns-3 (brace-in-calls t) (brace-in-at t) brace-in.Post
 brace-in-returns-3 t c =
-    let z = c .before .before .before .before .before .before .before .before .before .before .before .before .before .before .before .before .before in
-    let x = as-upto (c .before .before .before .before .before .before .before .before .before .before .before .before .before .rule-in .ensures) _ _ (c .before .before .before .before .before .before .before .before .before .end .given .1) in
-    let g = subst (SignAt (z .args .text .now) (c .before .before .before .before .before .before .before .before .before .end .given .0 .0)) (c .before .before .before .before .before .kind .given .1) (c .before .before .before .before .before .before .before .sign-at .ensures) in
-    let p = z .pre .1 in
-    took _ _ refl (brace-repeat _ _ _ _ _ _ _ x _ _ _ (c .before .before .put-byte .ensures) (omega arith) (g .0) (g .1) _ (g .2))
-
-brace-in-same-length-4 : (t : ℕ) → brace-in-lts.Need-same-length-4 (brace-in-calls t) (brace-in-at t) brace-in.Post
-brace-in-same-length-4 t c = search needs
-
-brace-in-returns-4 : (t : ℕ) → brace-in-lts.Need-returns-4 (brace-in-calls t) (brace-in-at t) brace-in.Post
-brace-in-returns-4 t c =
-    let z = c .before .before .before .before .before .before .before .before .before .before .before .before .before .before .before .before .before .before .before .before .before .before in
-    let x = as-upto (c .before .before .before .before .before .before .before .before .before .before .before .before .before .before .before .before .before .before .rule-in .ensures) _ _ (c .before .before .before .before .before .before .before .before .before .before .before .before .before .before .end .given .1) in
-    let g = subst (SignAt (z .args .text .now) (c .before .before .before .before .before .before .before .before .before .before .before .before .before .before .end .given .0 .0)) (c .before .before .before .before .before .before .before .before .before .before .kind2 .given .1) (c .before .before .before .before .before .before .before .before .before .before .before .before .sign-at .ensures) in
-    let p = z .pre .1 in
-    brace-pair _ _ _ _ _ _ _ x _ _ _ (c .before .before .before .before .before .before .before .put-byte2 .ensures) (omega arith) (g .0) (g .1) _ (g .2) _ _ (then-sign _ _ _ _ _ rule over-rule spell 125 _ _ (c .before .before .before .rule-in2 .ensures) (c .closed .ensures))
+    let p = c .before .before .before .before .before .before .before .before .before .before .before .before .before .before .before .before .before .before .before .before .before .before .before .pre .1 in
+    let x = as-upto (c .before .before .before .before .before .before .before .before .before .before .before .before .before .before .before .before .before .before .before .rule-in .ensures) _ _ (c .before .before .before .before .before .before .before .before .before .before .before .before .before .before .before .end .given .1) in
+    let g = as-operator _ _ _ (c .before .before .before .before .before .before .before .before .before .before .before .before .before .sign-at .ensures) _ _ (c .before .before .before .before .before .before .before .before .before .before .before .kind .given .1) in
+    brace-pair _ _ _ _ _ _ _ x (omega arith) _ _ (g .0) _ (g .2) _ _ _ _ (c .before .before .before .before .before .before .before .before .plain .ensures) (g .1) (c .before .before .before .before .before .before .before .put-head .ensures) (then-sign _ _ _ _ _ rule wide 125 _ _ (c .before .before .before .rule-in2 .ensures) (c .closed .ensures))
 
 abbrev rule-in-calls : ℕ → rule-in-lts.Claims
-rule-in-calls t = (stands-reads.Asked, stands-reads.Learnt, kind-in-reads.Asked, kind-in-reads.Learnt, brace-in-below t, brace-in.Post, put-byte-reads.Asked, put-byte-reads.Learnt, formula-in-reads.Asked, formula-in-reads.Learnt)
+rule-in-calls t = (stands-reads.Asked, stands-reads.Learnt, kind-in-reads.Asked, kind-in-reads.Learnt, brace-in-below t, brace-in.Post, letter-in-reads.Asked, letter-in-reads.Learnt)
 
 rule-in-returns : (t : ℕ) → rule-in-lts.Need-returns (rule-in-calls t) (rule-in-at t) rule-in.Post
-rule-in-returns t c = let s = c .before .before .before .args in broke _ refl (ended (s .text .now) (s .at) (omega arith))
+rule-in-returns t c = let s = c .before .before .before .args in broke _ refl (no-rule (s .text .now) (s .at) (omega arith))
 
 rule-in-stands-requires : (t : ℕ) → rule-in-lts.Need-stands-requires (rule-in-calls t) (rule-in-at t) rule-in.Post
 rule-in-stands-requires t c κs = search needs
@@ -159,18 +143,13 @@ rule-in-slice-aggregate-kind-in : (t : ℕ) → rule-in-lts.Need-slice-aggregate
 rule-in-slice-aggregate-kind-in t c = search needs
 
 rule-in-kind-in-requires : (t : ℕ) → rule-in-lts.Need-kind-in-requires (rule-in-calls t) (rule-in-at t) rule-in.Post
-rule-in-kind-in-requires t c κs =
-    let z = c .before .before .before .before .before .before .before in
-    let h = (c .before .before .before .stands .ensures .yes-holds (c .before .before .if2 .taken)) in
-    let p = z .pre .1 in
-    omega arith
+rule-in-kind-in-requires t c κs = let p = c .before .before .before .before .before .before .before .pre .1 in let h = (c .before .before .before .stands .ensures .yes-holds (c .before .before .if2 .taken)) in omega arith
 
 rule-in-same-length : (t : ℕ) → rule-in-lts.Need-same-length (rule-in-calls t) (rule-in-at t) rule-in.Post
 rule-in-same-length t c = search needs
 
 rule-in-returns-2 : (t : ℕ) → rule-in-lts.Need-returns-2 (rule-in-calls t) (rule-in-at t) rule-in.Post
-rule-in-returns-2 t c =
-    arm-empty _ _ _ _ _ _ (c .before .before .before .before .before .before .stands .ensures .yes-holds (c .before .before .before .before .before .if2 .taken)) (c .before .before .kind-in .ensures)
+rule-in-returns-2 t c = arm-empty _ _ _ _ _ _ (c .before .before .before .before .before .before .stands .ensures .yes-holds (c .before .before .before .before .before .if2 .taken)) (c .before .before .kind-in .ensures)
 
 rule-in-stands-requires-2 : (t : ℕ) → rule-in-lts.Need-stands-requires-2 (rule-in-calls t) (rule-in-at t) rule-in.Post
 rule-in-stands-requires-2 t c κs = search needs
@@ -179,37 +158,22 @@ rule-in-add-brace-in : (t : ℕ) → rule-in-lts.Need-add-brace-in (rule-in-call
 rule-in-add-brace-in t c = let h = (c .before .stands2 .ensures .yes-holds (c .if3 .taken)) in omega arith
 
 rule-in-brace-in-requires : (t : ℕ) → rule-in-lts.Need-brace-in-requires (rule-in-calls t) (rule-in-at t) rule-in.Post
-rule-in-brace-in-requires t c κs =
-    let z = c .before .before .before .before .before .before .before .before in
-    let h = (c .before .before .stands2 .ensures .yes-holds (c .before .if3 .taken)) in
-    let p = z .pre .1 in
-    (omega arith, omega arith)
+rule-in-brace-in-requires t c κs = let p = c .before .before .before .before .before .before .before .before .pre .1 in let h = (c .before .before .stands2 .ensures .yes-holds (c .before .if3 .taken)) in (omega arith, omega arith)
 
 rule-in-same-length-2 : (t : ℕ) → rule-in-lts.Need-same-length-2 (rule-in-calls t) (rule-in-at t) rule-in.Post
 rule-in-same-length-2 t c = search needs
 
 rule-in-returns-3 : (t : ℕ) → rule-in-lts.Need-returns-3 (rule-in-calls t) (rule-in-at t) rule-in.Post
-rule-in-returns-3 t c =
-    arm-brace _ _ _ _ _ _ (c .before .before .before .before .before .stands2 .ensures .yes-holds (c .before .before .before .before .if3 .taken)) (c .before .before .brace-in .ensures)
+rule-in-returns-3 t c = arm-brace _ _ _ _ _ _ (c .before .before .before .before .before .stands2 .ensures .yes-holds (c .before .before .before .before .if3 .taken)) (c .before .before .brace-in .ensures)
 
-rule-in-put-byte-requires : (t : ℕ) → rule-in-lts.Need-put-byte-requires (rule-in-calls t) (rule-in-at t) rule-in.Post
-rule-in-put-byte-requires t c κs = let p = c .before .before .before .before .before .before .before .before .pre .1 in omega arith
-
-rule-in-formula-in-requires : (t : ℕ) → rule-in-lts.Need-formula-in-requires (rule-in-calls t) (rule-in-at t) rule-in.Post
-rule-in-formula-in-requires t c κs =
-    let z = c .before .before .before .before .before .before .before .before .before .before .before .before in
-    let p = z .pre .1 in
-    let w = c .before .before .before .put-byte .ensures in
-    omega arith
+rule-in-letter-in-requires : (t : ℕ) → rule-in-lts.Need-letter-in-requires (rule-in-calls t) (rule-in-at t) rule-in.Post
+rule-in-letter-in-requires t c κs = let p = c .before .before .before .before .before .before .before .before .pre .1 in omega arith
 
 rule-in-same-length-3 : (t : ℕ) → rule-in-lts.Need-same-length-3 (rule-in-calls t) (rule-in-at t) rule-in.Post
 rule-in-same-length-3 t c = search needs
 
 rule-in-returns-4 : (t : ℕ) → rule-in-lts.Need-returns-4 (rule-in-calls t) (rule-in-at t) rule-in.Post
-rule-in-returns-4 t c =
-    let z = c .before .before .before .before .before .before .before .before .before .before .before .before .before .before .before in
-    let p = z .pre .1 in
-    arm-letter _ _ (omega arith) (c .before .before .before .before .before .before .before .before .before .before .before .stands .ensures .no-fails (c .before .before .before .before .before .before .before .before .before .before .if2 .left)) (c .before .before .before .before .before .before .before .before .before .stands2 .ensures .no-fails (c .before .before .before .before .before .before .before .before .if3 .left)) _ _ _ _ _ _ (omega arith) (c .before .before .before .before .before .before .put-byte .ensures) (c .before .before .formula-in .ensures)
+rule-in-returns-4 t c = arm-letter _ _ (omega arith) (c .before .before .before .before .before .before .before .stands .ensures .no-fails (c .before .before .before .before .before .before .if2 .left)) (c .before .before .before .before .before .stands2 .ensures .no-fails (c .before .before .before .before .if3 .left)) _ _ _ _ (c .before .before .letter-in .ensures)
 
 pub +brace-in+rule-in-spec : {M : Type 1} → statement M
 +brace-in+rule-in-spec = close μ-brace-in μ-rule-in (λ t. brace-in-lts.spec (brace-in-calls t)
@@ -220,11 +184,11 @@ pub +brace-in+rule-in-spec : {M : Type 1} → statement M
     (brace-in-enum-known-p t)
     (brace-in-enum-known-end t)
     (brace-in-sign-at-requires t)
-    (brace-in-enum-known-p-2 t)
+    (brace-in-enum-known-after t)
+    (brace-in-headed-requires t)
     (brace-in-enum-known-kind t)
-    (brace-in-put-byte-requires t)
-    (brace-in-enum-known-kind-2 t)
-    (brace-in-put-byte-requires-2 t)
+    (brace-in-plain-requires t)
+    (brace-in-put-head-requires t)
     (brace-in-rule-in-requires-2 t)
     (brace-in-closed-requires t)
     (brace-in-same-length t)
@@ -232,9 +196,7 @@ pub +brace-in+rule-in-spec : {M : Type 1} → statement M
     (brace-in-same-length-2 t)
     (brace-in-returns-2 t)
     (brace-in-same-length-3 t)
-    (brace-in-returns-3 t)
-    (brace-in-same-length-4 t)
-    (brace-in-returns-4 t))
+    (brace-in-returns-3 t))
     λ t. rule-in-lts.spec (rule-in-calls t)
     (rule-in-at t)
     rule-in.Post
@@ -250,7 +212,6 @@ pub +brace-in+rule-in-spec : {M : Type 1} → statement M
     (rule-in-brace-in-requires t)
     (rule-in-same-length-2 t)
     (rule-in-returns-3 t)
-    (rule-in-put-byte-requires t)
-    (rule-in-formula-in-requires t)
+    (rule-in-letter-in-requires t)
     (rule-in-same-length-3 t)
     (rule-in-returns-4 t)

@@ -6,7 +6,6 @@ use lib.ListN.{length}
 use Rattle.rules.specs.Encoding.{spellF}
 use Rattle.texts.specs.inner.Reading.{formula}
 use Rattle.texts.specs.inner.Places.{broke}
-use Rattle.texts.proofs.Complete.{over-formula}
 use Rattle.texts.proofs.Taking.{as-upto, as-broken, then-sign}
 use Rattle.texts.proofs.AfterOperand.{is-junction, not-junction}
 use Rattle.texts.proofs.Operands.{join-first, join-none, join-on, formula-bounds}
@@ -239,7 +238,7 @@ join-in-returns-3 t c =
     let z = c .before .before .before .before .before .before .before .before .before .before .before .before .before .before .before .before .before .before .before .before in
     let i = is-junction _ _ _ (c .before .before .before .before .before .before .before .before .before .before .junction-at .ensures) (c .before .before .before .before .before .before .before .before .before .if1 .left) in
     let p = z .pre .1 in
-    join-on _ _ _ _ _ _ _ (as-upto (c .before .before .before .before .before .before .before .before .before .before .before .before .before .before .before .before .formula-in .ensures) _ _ (c .before .before .before .before .before .before .before .before .before .before .before .before .end .given .1)) (i .0) (i .1) _ (i .2) _ _ (c .before .before .before .before .before .before .before .put-byte .ensures) (omega arith) _ _ (then-sign _ _ _ _ _ formula over-formula spellF 41 _ _ (c .before .before .before .formula-in2 .ensures) (c .closed .ensures))
+    join-on _ _ _ _ _ _ _ (as-upto (c .before .before .before .before .before .before .before .before .before .before .before .before .before .before .before .before .formula-in .ensures) _ _ (c .before .before .before .before .before .before .before .before .before .before .before .before .end .given .1)) (i .0) (i .1) _ (i .2) _ _ (c .before .before .before .before .before .before .before .put-byte .ensures) (omega arith) _ _ (then-sign _ _ _ _ _ formula spellF 41 _ _ (c .before .before .before .formula-in2 .ensures) (c .closed .ensures))
 
 pub +formula-in+join-in-spec : {M : Type 1} → statement M
 +formula-in+join-in-spec = close μ-formula-in μ-join-in (λ t. formula-in-lts.spec (formula-in-calls t)
