@@ -61,7 +61,7 @@ fn refusals() {
     read(b"a letter without its formula", b"\x10");
     read(b"a proposition without its number", b"\x10\x01");
     read(b"; without its second operand", b"\x12\x11");
-    read(b"kind 19", b"\x19");
+    read(b"kind 1B", b"\x1B");
     read(b"kind 07 for a formula", b"\x10\x04\x07");
     read(b"a formula for a rule", b"\x02");
     read(b"a rule for a formula", b"\x10\x05\x02\x11");
