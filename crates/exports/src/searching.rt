@@ -5,8 +5,8 @@ ghost use mathlib.Core.List.{List};
 ghost use Rattle.search.specs.Answer as search;
 ghost use Rattle.exports.specs.Numbers.{searchedNumbers};
 ghost use Rattle.exports.specs.Promise.{GcSearches, GcSearchesTrimmed};
-use search::SearchAnswer;
 use passes::inner::Searched;
+use search::SearchAnswer;
 
 // What a search gives back: `found` is 1 where there is a run, which `length` counts; and the propositions that the rule names.
 #[repr(C)]

@@ -1,7 +1,7 @@
 // Prints what trimming comes to: labels, weights and finals, every refusal, and the search over the trimmed table.
 use libc::STDOUT_FILENO;
-use search::SearchAnswer;
 use passes::inner::Searched;
+use search::SearchAnswer;
 use tables::STATES;
 use tables::TABLE_ENTRIES;
 use tables::TableAnswer;

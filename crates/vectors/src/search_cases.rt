@@ -5,8 +5,8 @@ use crate::bytes::put_many;
 use crate::model_bytes::put_full;
 use crate::model_bytes::put_ring;
 use crate::show;
-use search::SearchAnswer;
 use passes::inner::Searched;
+use search::SearchAnswer;
 
 // A run of more states is not printed state by state.
 const PRINTED: usize = 16;
