@@ -127,10 +127,9 @@ fn broken() {
 }
 
 // A text with counts: its bytes, and these bytes written as a text again.
-fn counted(text: &[u8]) {
+fn counted(text: &[u8], bytes: &mut [u8]) {
     show(text);
-    let mut bytes = [0u8; TEXT_ROOM];
-    let answer = texts::read_text(text, &mut bytes);
+    let answer = texts::read_text(text, bytes);
     match answer {
         TextAnswer::Given { long, rule: _ } => {
             if long <= bytes.len() {
@@ -143,18 +142,18 @@ fn counted(text: &[u8]) {
 
 // From three to five expiries, in a row and wherever they stand; the smallest and the largest counts; a formula and a rule as operand.
 fn counts() {
-    counted(b"{p0}[*3..5]");
-    counted(b"p0[=3..5]");
-    counted(b"{p0}[*0..0]");
-    counted(b"p0[=0..0]");
-    counted(b"{p0}[*15..15]");
-    counted(b"p0[=15..15]");
-    counted(b"p0[=1..1]");
-    counted(b"p0[=1..10]");
-    counted(b"p0[=9..12]");
-    counted(b"{[*0]}[*10..11]");
-    counted(b"!(p0|p1)[=2..14]");
-    counted(b"{{{p0}[*1..2];p1[=0..1]}}[*0..1]");
+    counted(b"{p0}[*3..5]", &mut [0u8; TEXT_ROOM]);
+    counted(b"p0[=3..5]", &mut [0u8; TEXT_ROOM]);
+    counted(b"{p0}[*0..0]", &mut [0u8; TEXT_ROOM]);
+    counted(b"p0[=0..0]", &mut [0u8; TEXT_ROOM]);
+    counted(b"{p0}[*15..15]", &mut [0u8; TEXT_ROOM]);
+    counted(b"p0[=15..15]", &mut [0u8; TEXT_ROOM]);
+    counted(b"p0[=1..1]", &mut [0u8; TEXT_ROOM]);
+    counted(b"p0[=1..10]", &mut [0u8; TEXT_ROOM]);
+    counted(b"p0[=9..12]", &mut [0u8; TEXT_ROOM]);
+    counted(b"{[*0]}[*10..11]", &mut [0u8; TEXT_ROOM]);
+    counted(b"!(p0|p1)[=2..14]", &mut [0u8; TEXT_ROOM]);
+    counted(b"{{{p0}[*1..2];p1[=0..1]}}[*0..1]", &mut [0u8; TEXT_ROOM]);
 }
 
 // Counts go on as far as some pair of counts has their characters.
