@@ -10,7 +10,7 @@ use Rattle.bits.specs.Word.{bit}
 use Rattle.bits.proofs.Laws.{bit-word, bit-above, word-lt}
 use Rattle.bits.proofs.Truths.{or-T, true-T, T-true, false-no}
 use Rattle.rules.specs.declared.Known.{Known}
-use Rattle.rules.specs.Definition1.{Formula, prop, yea, nay, neg, join, Rule, letter, empty, two, again}
+use Rattle.rules.specs.Definition1.{Formula, prop, yea, nay, neg, join, Rule, letter, empty, two, again, counted, occurs}
 use Rattle.rules.specs.Definition2.{lastProposition}
 use Rattle.rules.specs.Encoding.{SmallF, Small}
 use Rattle.rules.specs.Named.{propositionCount, formulaNames, ruleNames, usesOf}
@@ -45,6 +45,8 @@ rule-in i (letter f) t = formula-in i f t
 rule-in i empty t = t
 rule-in i (two p a b) t = either (λ u. rule-in i a u) (λ u. rule-in i b u) (or-T (ruleNames a i) (ruleNames b i) .0 t)
 rule-in i (again p a) t = rule-in i a t
+rule-in i (counted l h a) t = rule-in i a t
+rule-in i (occurs l h f) t = formula-in i f t
 
 in-rule : (i : ℕ) (r : Rule) → InRule i r → T (ruleNames r i)
 unfolding ruleNames
@@ -52,6 +54,8 @@ in-rule i (letter f) h = in-formula i f h
 in-rule i empty h = h
 in-rule i (two p a b) h = or-T (ruleNames a i) (ruleNames b i) .1 (either (λ u. in-rule i a u) (λ u. in-rule i b u) h)
 in-rule i (again p a) h = in-rule i a h
+in-rule i (counted l j a) h = in-rule i a h
+in-rule i (occurs l j f) h = in-formula i f h
 
 -- none but the propositions that exist
 formula-small : (i : ℕ) (f : Formula) → SmallF f → InFormula i f → i ≤ lastProposition
@@ -68,6 +72,8 @@ rule-small i empty m h = absurd h
 rule-small i (two p a b) m (inl h) = rule-small i a (m .0) h
 rule-small i (two p a b) m (inr h) = rule-small i b (m .1) h
 rule-small i (again p a) m h = rule-small i a m h
+rule-small i (counted l j a) m h = rule-small i a (m .1) h
+rule-small i (occurs l j f) m h = formula-small i f (m .1) h
 
 module _ (r : Rule) (i : ℕ) where
   set-in : T (bit (usesOf r) i) → InRule i r

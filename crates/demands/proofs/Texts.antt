@@ -118,7 +118,7 @@ writes-back s before after n k w out out′ x h a =
 pub five-for-a-byte : FiveForAByte
 five-for-a-byte s before after n k w =
     let o = written-are-texts s before after n k w in
-    let l = text-lengths (o .0) in
+    let l = text-lengths (o .0) (o .1 .spelt .propositions) in
     let e = ap length (o .1 .spelt .bytes) in
     let c = o .1 .holds .count in
     let h = o .1 .spelt .short in
