@@ -179,7 +179,9 @@ fn after(needed: &[u8], character: u8) -> Vec<Vec<u8>> {
     let taken = |way: String| match way.as_bytes() {
         [] => after(later, character),
         [first, rest @ ..] if *first == character => {
-            vec![later.iter().chain(rest.iter().rev()).copied().collect()]
+            let mut next = later.to_vec();
+            next.extend(rest.iter().rev());
+            vec![next]
         }
         _ => Vec::new(),
     };
