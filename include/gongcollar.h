@@ -5,7 +5,7 @@
  * with `place`; the other fields are then 0 (but for gc_step, which gives the walker back as it came). A refusal
  * leaves every lent slice, and a lent walker, as it was.
  *
- * Refusals: 1 to 7 a rule's, 11 to 16 a model's, 21 a lent slice has fewer than 4,096 entries, 22 a byte that is
+ * Refusals: 1 to 8 a rule's, 11 to 16 a model's, 21 a lent slice has fewer than 4,096 entries, 22 a byte that is
  * no letter, 23 more than 16 letters for gc_judge, 24 the slice holds no table of the weight and the finals that are
  * stated, 25 a walker's count is at its largest, 30 a text has more than 1,280 characters, 31 no rule has the text, 32
  * the output is too short for what would be written. A table's label from p to q stands at 64p+q; a set has bit q for

@@ -1,7 +1,7 @@
 //! Rules of 255 bytes as text: reading and writing.
 
 use crate::timing::{micros, several};
-use cases::hostile::{joined_right, nested};
+use cases::hostile::{counted, hits, joined_right, nested};
 use gongcollar::{read_text_into, write_text_into, RULE_BYTES, TEXT_BYTES};
 
 /// Each call is made so many times.
@@ -29,6 +29,14 @@ fn rules() -> Vec<(&'static str, Vec<u8>)> {
         (
             "32 p0[*][*][*][*] under ;",
             joined_right(0x12, &starred, 32),
+        ),
+        (
+            "84 nested [*1..1] of p0",
+            counted(1, 1, 84, &[0x10, 0x01, 0x00]),
+        ),
+        (
+            "[=10..15] of 250 nested not",
+            hits(10, 15, &nested(0x04, 250, &[0x01, 0x05])),
         ),
     ]
 }

@@ -1,6 +1,6 @@
 //! Accepted inputs that take long: for measuring, and for a small stack.
 
-use crate::hostile::{joined_left, joined_right, nested};
+use crate::hostile::{counted, hits, joined_left, joined_right, nested};
 use crate::rules::kind::*;
 use crate::rules::{ANY, P0};
 
@@ -65,6 +65,18 @@ pub fn dense_again_and_never() -> Vec<u8> {
     rule
 }
 
+/// Fifteen copies of two copies of `p0[*]`, with single copies as deep as the bytes allow below them: weight 60.
+fn copies_above() -> Vec<u8> {
+    let single = counted(1, 1, 81, &nested(STAR, 1, &P0));
+    counted(15, 15, 1, &counted(2, 2, 1, &single))
+}
+
+/// The same with up to so many copies, and the single ones above them.
+fn copies_below() -> Vec<u8> {
+    let many = counted(0, 15, 1, &counted(0, 2, 1, &nested(STAR, 1, &P0)));
+    counted(1, 1, 81, &many)
+}
+
 /// Rules that keep the plain judge busy.
 pub fn for_the_judge() -> Vec<Named> {
     let once = nested(STAR, 4, &P0);
@@ -96,6 +108,21 @@ pub fn for_the_judge() -> Vec<Named> {
         named(
             "252 nested not",
             nested(LETTER, 1, &nested(NOT, 252, &[PROPOSITION, 0])),
+        ),
+        named("p0[*][*2..2][*15..15] over 81 [*1..1]", copies_above()),
+        named("p0[*][*0..2][*0..15] under 81 [*1..1]", copies_below()),
+        named("84 nested [*0..1] of p0", counted(0, 1, 84, &P0)),
+        named(
+            "6 nested [*2..2] over 78 [*1..1] of an empty",
+            counted(2, 2, 6, &counted(1, 1, 78, &[EMPTY])),
+        ),
+        named(
+            "4 empties[*0..15] under ;, each over 19 [*0..1]",
+            joined_left(THEN, &counted(0, 15, 1, &counted(0, 1, 19, &[EMPTY])), 4),
+        ),
+        named(
+            "3 p0[=0..15] under :",
+            joined_left(OVERLAP, &hits(0, 15, &[PROPOSITION, 0]), 3),
         ),
     ]
 }
@@ -140,5 +167,20 @@ pub fn for_the_builder() -> Vec<Named> {
             joined_left(THEN, &[STAR, PLUS, EMPTY], 64),
         ),
         named("31 true[*] and false under ;", dense_and_never()),
+        named("p0[*][*2..2][*15..15] over 81 [*1..1]", copies_above()),
+        named("p0[*][*0..2][*0..15] under 81 [*1..1]", copies_below()),
+        named(
+            "15 copies of 4 empties[*0..1]",
+            counted(0, 15, 1, &joined_left(THEN, &counted(0, 1, 1, &[EMPTY]), 4)),
+        ),
+        named("6 nested [*0..2] of an empty", counted(0, 2, 6, &[EMPTY])),
+        named(
+            "3 p0[=0..15] under ;",
+            joined_left(THEN, &hits(0, 15, &[PROPOSITION, 0]), 3),
+        ),
+        named(
+            "no parts of 83 letters under &&",
+            counted(0, 0, 1, &joined_left(BOTH, &ANY, 83)),
+        ),
     ]
 }

@@ -35,8 +35,86 @@ pub fn rules() -> Vec<Vec<u8>> {
         deep(),
         past_every_word(),
         too_long(),
+        counts(),
     ]
     .concat()
+}
+
+/// Counts so many times before what they are of.
+pub fn counted(least: u8, most: u8, times: usize, operand: &[u8]) -> Vec<u8> {
+    [&[COUNTED, least, most].repeat(times)[..], operand].concat()
+}
+
+/// So many letters that satisfy a formula.
+pub fn hits(least: u8, most: u8, formula: &[u8]) -> Vec<u8> {
+    [&[HITS, least, most], formula].concat()
+}
+
+/// Counts as deep as the bytes allow, complete and cut, light and past every word; counts that are none; no parts of what
+/// is far too heavy.
+fn counts() -> Vec<Vec<u8>> {
+    let mut rules = Vec::new();
+    for (least, most) in [(15, 15), (1, 1), (0, 1), (0, 15), (0, 0), (2, 2)] {
+        rules.push(counted(least, most, 85, &[]));
+        for times in [1, 2, 3, 6, 7, 83, 84] {
+            rules.push(counted(least, most, times, &[EMPTY]));
+            rules.push(counted(least, most, times, &ANY));
+            rules.push(counted(least, most, times, &P0));
+            rules.push(counted(least, most, times, &nested(STAR, 1, &P0)));
+            rules.push(counted(least, most, times, &hits(0, 15, &[TRUE])));
+        }
+        rules.push(hits(least, most, &nested(NOT, 251, &[TRUE])));
+        rules.push(hits(least, most, &nested(NOT, 252, &[])));
+        rules.push(hits(least, most, &joined_left(AND, &[TRUE], 126)));
+        for count in [3, 4, 31, 32, 33, 42, 50] {
+            rules.push(joined_left(THEN, &hits(least, most, &[TRUE]), count));
+            rules.push(joined_right(BOTH, &hits(least, most, &[TRUE]), count));
+        }
+    }
+    // Deep and many: the copies above, below and between single ones.
+    let once = |times: usize, operand: &[u8]| counted(1, 1, times, operand);
+    rules.push(counted(15, 15, 1, &counted(2, 2, 1, &once(80, &P0))));
+    rules.push(once(80, &counted(0, 15, 1, &counted(0, 2, 1, &P0))));
+    rules.push(once(
+        40,
+        &counted(0, 15, 1, &once(40, &nested(STAR, 1, &P0))),
+    ));
+    rules.push(counted(4, 4, 3, &once(81, &[EMPTY])));
+    rules.push(counted(2, 2, 6, &once(78, &[EMPTY])));
+    rules.push([&[STAR, COUNTED, 1, 1].repeat(62)[..], &P0].concat());
+    rules.push([&[COUNTED, 0, 1, PLUS].repeat(63)[..], &ANY].concat());
+    // No parts of what is too heavy, which weigh 1 also inside.
+    for power in [7, 8, 16, 32, 63, 64, 65, 83] {
+        let none = counted(0, 0, 1, &joined_left(BOTH, &ANY, power));
+        rules.push([&[THEN][..], &P0, &none[..none.len().min(250)]].concat());
+        rules.push(counted(15, 15, 1, &none[..none.len().min(252)]));
+        rules.push(none);
+    }
+    rules.push(counted(0, 0, 42, &counted(15, 15, 42, &[EMPTY])));
+    rules.push([&[COUNTED, 0, 0, COUNTED, 15, 15].repeat(42)[..], &ANY].concat());
+    rules.push([&[COUNTED, 15, 15, COUNTED, 0, 0].repeat(42)[..], &ANY].concat());
+    // Counts that are none, with and without an operand, alone and under what is too heavy.
+    for kind in [COUNTED, HITS] {
+        for (least, most) in [
+            (1, 0),
+            (15, 14),
+            (0, 16),
+            (16, 16),
+            (16, 0),
+            (255, 255),
+            (0, 255),
+        ] {
+            let bad = [kind, least, most];
+            rules.push(bad.to_vec());
+            rules.push(bad[..2].to_vec());
+            rules.push([&bad[..], &[TRUE]].concat());
+            rules.push([&bad[..], &P0].concat());
+            rules.push([&counted(15, 15, 50, &[])[..], &bad, &ANY].concat());
+            rules.push([&counted(0, 0, 1, &bad)[..], &ANY, &[EMPTY]].concat());
+        }
+        rules.push([kind, 0, 0, 0xFF].to_vec());
+    }
+    rules
 }
 
 /// The deepest nesting of repetitions, complete and cut.
@@ -328,6 +406,11 @@ mod tests {
         assert_eq!(joined_right(THEN, &[EMPTY], 128).len(), MOST_RULE_BYTES);
         assert_eq!(
             joined_left(THEN, &[STAR, PLUS, EMPTY], 64).len(),
+            MOST_RULE_BYTES
+        );
+        assert_eq!(counted(15, 15, 84, &P0).len(), MOST_RULE_BYTES);
+        assert_eq!(
+            hits(0, 15, &nested(NOT, 251, &[TRUE])).len(),
             MOST_RULE_BYTES
         );
     }

@@ -20,6 +20,8 @@ pub mod kind {
     pub const BOTH: u8 = 0x16;
     pub const STAR: u8 = 0x17;
     pub const PLUS: u8 = 0x18;
+    pub const COUNTED: u8 = 0x19;
+    pub const HITS: u8 = 0x1A;
 }
 
 /// A letter of the formula true.
@@ -33,6 +35,8 @@ pub const MOST_BYTES: usize = 255;
 pub const MOST_WEIGHT: usize = 64;
 /// The number of propositions.
 pub const PROPOSITIONS: usize = 6;
+/// The highest count.
+pub const MOST_COUNT: usize = 15;
 
 /// How deep repetitions and formulas may nest in a drawn rule.
 const DEPTH: usize = 4;
@@ -46,12 +50,17 @@ enum Shape {
     Letter,
     Repeat(u8),
     Pair(u8, usize, usize),
+    /// The higher count, and the weight of what is counted.
+    Counted(usize, usize),
+    /// The higher count.
+    Hits(usize),
 }
 
 /// What one rule is drawn from, so that rules differ in more than their weight.
 #[derive(Debug, Clone, Copy)]
 struct Plan {
     repeat_once_in: usize,
+    count_once_in: usize,
     pairs: &'static [u8],
     propositions: usize,
 }
@@ -59,6 +68,7 @@ struct Plan {
 /// All operators alike.
 const MIXED: Plan = Plan {
     repeat_once_in: 5,
+    count_once_in: 20,
     pairs: &[
         kind::THEN,
         kind::OVERLAP,
@@ -72,12 +82,14 @@ const MIXED: Plan = Plan {
 /// Long rows, which only long sequences match.
 const ROWS: Plan = Plan {
     repeat_once_in: 40,
+    count_once_in: 60,
     pairs: &[kind::THEN],
     ..MIXED
 };
 
 const OVERLAPS: Plan = Plan {
     repeat_once_in: 12,
+    count_once_in: 30,
     pairs: &[kind::OVERLAP, kind::THEN, kind::THEN, kind::CHOICE],
     ..MIXED
 };
@@ -87,10 +99,16 @@ const PRODUCTS: Plan = Plan {
     ..MIXED
 };
 
+const COUNTS: Plan = Plan {
+    repeat_once_in: 12,
+    count_once_in: 2,
+    ..MIXED
+};
+
 /// With few propositions a letter often leads to several states at once.
 fn plan(draws: &mut Draws) -> Plan {
     let propositions = draws.one_of(&[1, 2, 3, PROPOSITIONS]);
-    let plan = draws.one_of(&[MIXED, ROWS, OVERLAPS, PRODUCTS]);
+    let plan = draws.one_of(&[MIXED, ROWS, OVERLAPS, PRODUCTS, COUNTS]);
     Plan {
         propositions,
         ..plan
@@ -159,6 +177,22 @@ pub fn fork(draws: &mut Draws) -> Vec<u8> {
     out
 }
 
+/// Counted parts of a light rule, or letters that satisfy a formula.
+pub fn counting(draws: &mut Draws, kind: u8, least: u8, most: u8) -> Vec<u8> {
+    let plan = plan(draws);
+    let mut out = vec![kind, least, most];
+    match kind {
+        kind::HITS => put_formula(draws, plan, DEPTH, &mut out),
+        _ => {
+            // 0 parts may be of anything.
+            let heaviest = MOST_WEIGHT / usize::from(most).clamp(1, MOST_WEIGHT);
+            let weight = draws.between(1, heaviest.min(8));
+            put_rule(draws, plan, weight, 2, &mut out);
+        }
+    }
+    out
+}
+
 fn put_rule(draws: &mut Draws, plan: Plan, weight: usize, depth: usize, out: &mut Vec<u8>) {
     match shape(draws, plan, weight, depth) {
         Shape::Empty => out.push(kind::EMPTY),
@@ -175,7 +209,22 @@ fn put_rule(draws: &mut Draws, plan: Plan, weight: usize, depth: usize, out: &mu
             put_rule(draws, plan, a, depth, out);
             put_rule(draws, plan, b, depth, out);
         }
+        Shape::Counted(most, operand) => {
+            put_counts(draws, kind::COUNTED, most, out);
+            put_rule(draws, plan, operand, depth - 1, out);
+        }
+        Shape::Hits(most) => {
+            put_counts(draws, kind::HITS, most, out);
+            put_formula(draws, plan, depth, out);
+        }
     }
+}
+
+/// The kind, some count up to the higher one, often one of the two ends, and the higher one.
+fn put_counts(draws: &mut Draws, kind: u8, most: usize, out: &mut Vec<u8>) {
+    let between = draws.between(0, most);
+    let least = draws.one_of(&[0, most, between, between]);
+    out.extend([kind, least as u8, most as u8]);
 }
 
 /// A shape whose operands can be given weights such that the whole has this one.
@@ -183,11 +232,31 @@ fn shape(draws: &mut Draws, plan: Plan, weight: usize, depth: usize) -> Shape {
     if depth > 0 && draws.once_in(plan.repeat_once_in) {
         return Shape::Repeat(draws.one_of(&[kind::STAR, kind::PLUS]));
     }
+    if depth > 0 && draws.once_in(plan.count_once_in) {
+        return counted(draws, weight);
+    }
+    let fits = (2..=MOST_COUNT + 2).contains(&weight);
+    if fits && draws.once_in(2 * plan.count_once_in) {
+        return Shape::Hits(weight - 2);
+    }
     match weight {
         0 | 1 => Shape::Empty,
         2 if !draws.once_in(12) => Shape::Letter,
         _ => pair(draws, plan, weight),
     }
+}
+
+/// A weight as that of so many parts. No parts weigh 1, whatever they are of: now and then what is too heavy alone.
+fn counted(draws: &mut Draws, weight: usize) -> Shape {
+    if weight == 1 && draws.once_in(2) {
+        let bound = draws.one_of(&[2, 8, 8, HEAVIEST]);
+        return Shape::Counted(0, draws.between(1, bound));
+    }
+    let divisors: Vec<usize> = (1..=MOST_COUNT)
+        .filter(|&most| weight.is_multiple_of(most))
+        .collect();
+    let most = draws.one_of(&divisors);
+    Shape::Counted(most, weight / most)
 }
 
 /// A weight of 2 or more as that of an operator with two operands; `;` where the drawn one cannot have it.

@@ -9,8 +9,8 @@ pub const MOST_CHARACTERS: usize = 1280;
 pub fn likely_character(draws: &mut Draws) -> u8 {
     match draws.below(8) {
         0 => draws.byte(),
-        1 => draws.one_of(b" \t\n\0PRxq67[*1]"),
-        _ => draws.one_of(b"p012345truefals!()&|{};:[*]+0"),
+        1 => draws.one_of(b" \t\n\0PRxq6789[*1]="),
+        _ => draws.one_of(b"p012345truefals!()&|{};:[*]+0=.."),
     }
 }
 
@@ -64,6 +64,46 @@ pub fn hostile() -> Vec<Vec<u8>> {
         texts.push(row(b"true", b":", count));
         texts.push(row(b"[*0]", b"|", count));
         texts.push(row(b"[*0]", b";", count));
+    }
+    texts.extend(counts());
+    texts
+}
+
+/// Counts as deep as characters, bytes and weight allow, and past them; counts that are none, and counts cut anywhere.
+fn counts() -> Vec<Vec<u8>> {
+    let mut texts = Vec::new();
+    let deep = |count: usize, operand: &[u8], counts: &str| {
+        let close = format!("}}[*{counts}]").into_bytes();
+        [&b"{".repeat(count)[..], operand, &close.repeat(count)].concat()
+    };
+    for counts in [
+        "0..0", "1..1", "0..1", "15..15", "10..15", "0..15", "2..1", "16..16",
+    ] {
+        for count in [1, 2, 3, 83, 84, 85, 125, 126, 127, 128, 158, 159, 160, 161] {
+            texts.push(deep(count, b"p0", counts));
+            texts.push(deep(count, b"[*0]", counts));
+            texts.push([&deep(count, b"true", counts)[..], b"x"].concat());
+        }
+        for count in [1, 3, 4, 31, 32, 33, 50, 51, 52] {
+            let operand = format!("p5[={counts}]").into_bytes();
+            texts.push(row(&operand, b";", count));
+            texts.push(row(&operand, b"&&", count));
+        }
+        for stem in ["p0[=", "!(p0|true)[=", "{p0}[*", "{p0;{p1}[*"] {
+            let text = format!("{stem}{counts}]}}]").into_bytes();
+            for length in stem.len() - 2..=text.len() {
+                texts.push(text[..length].to_vec());
+            }
+        }
+    }
+    // No parts of what is far too heavy.
+    texts.push([b"{", &row(b"true", b"&&", 60)[..], b"}[*0..0]"].concat());
+    texts.push([b"{", &row(b"true", b"&&", 60)[..], b"}[*0..1]"].concat());
+    for stem in [&b"p0[="[..], b"{p0}[*", b"p0[=1..", b"p0[=12.."] {
+        for character in b"01259.]" {
+            texts.push([stem, &[*character; 9]].concat());
+            texts.push([stem, &[*character; MOST_CHARACTERS - 8]].concat());
+        }
     }
     texts
 }

@@ -12,8 +12,8 @@ use std::process::ExitCode;
 
 const SEED: u64 = 20_260_101;
 /// Every refusal of the interface; each must come up.
-const REFUSALS: [u64; 21] = [
-    1, 2, 3, 4, 5, 6, 7, 11, 12, 13, 14, 15, 16, 21, 22, 23, 24, 25, 30, 31, 32,
+const REFUSALS: [u64; 22] = [
+    1, 2, 3, 4, 5, 6, 7, 8, 11, 12, 13, 14, 15, 16, 21, 22, 23, 24, 25, 30, 31, 32,
 ];
 const FEWEST_CASES: usize = 20_000;
 
@@ -29,6 +29,10 @@ const LONG_WALK: usize = 300;
 const TRIMS: usize = 3000;
 const RINGS: usize = 300;
 const FORKS: usize = 2000;
+/// Counts up to past the highest are tried, and the highest byte.
+const COUNTS: [u8; 19] = [
+    0, 1, 2, 3, 4, 5, 6, 7, 8, 9, 10, 11, 12, 13, 14, 15, 16, 17, 0xFF,
+];
 
 fn main() -> ExitCode {
     let Some(seed) = seed_given(SEED) else {
@@ -39,6 +43,7 @@ fn main() -> ExitCode {
     valid(&mut trials);
     rings(&mut trials);
     forks(&mut trials);
+    counts(&mut trials);
     damaged(&mut trials);
     hostile_rules(&mut trials);
     hostile_models(&mut trials);
@@ -87,6 +92,22 @@ fn forks(trials: &mut Trials) {
         trials.search("forks", &rule, &models::bytes_of(&states));
         trials.search_spelled("forks", &rule);
         trials.sequences("forks", &rule);
+    }
+}
+
+/// Every two counts, good or bad, of a light rule and of a formula, also cut after each of their bytes.
+fn counts(trials: &mut Trials) {
+    for kind in [rules::kind::COUNTED, rules::kind::HITS] {
+        for (least, most) in COUNTS.iter().flat_map(|&i| COUNTS.map(|j| (i, j))) {
+            let rule = rules::counting(&mut trials.draws, kind, least, most);
+            let model = models::accepted(&mut trials.draws);
+            all_calls(trials, "counts", &rule, &model);
+            trials.search_spelled("counts", &rule);
+            trials.sequences("counts", &rule);
+            for length in 1..=3 {
+                trials.read_rule("counts", &rule[..length]);
+            }
+        }
     }
 }
 

@@ -71,6 +71,7 @@ refusals! {
     UnknownProposition = 5: "a proposition above 5";
     BytesAfterRule = 6: "bytes after the complete rule";
     TooHeavy = 7: "the rule weighs more than 64";
+    BadCounts = 8: "counts of which the first exceeds the second, or the second 15";
     TooManyStates = 11: "the model goes on after 64 states";
     NotAState = 12: "a record of the model that is no state";
     StateCutShort = 13: "the model ends inside a state";

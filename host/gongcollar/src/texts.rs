@@ -10,8 +10,9 @@ use std::str::FromStr;
 /// An accepted rule: its bytes in the house form, and what is known of it.
 ///
 /// A rule has exactly one text. A formula is `p0` to `p5`, `true`, `false`, `!f`, `(f&f)` or `(f|f)`. A rule is a
-/// formula, `[*0]` for the empty sequence, `{r;r}`, `{r:r}`, `{r|r}`, `{r&r}`, `{r&&r}`, `{r}[*]` or `{r}[+]`; there
-/// are no blanks.
+/// formula, `[*0]` for the empty sequence, `{r;r}`, `{r:r}`, `{r|r}`, `{r&r}`, `{r&&r}`, `{r}[*]`, `{r}[+]`, `{r}[*i..j]`
+/// for i to j parts in a row, or `f[=i..j]` for i to j letters that satisfy the formula, others anywhere; i is at most j
+/// and j at most 15, in decimal without leading zeros. There are no blanks.
 ///
 /// ```
 /// use gongcollar::Rule;
@@ -21,6 +22,14 @@ use std::str::FromStr;
 /// assert_eq!(rule.weight(), 6);
 /// assert_eq!(rule.to_string(), "{p0;{{p1}[*];p2}}");
 /// assert!(gongcollar::judge(rule.bytes(), &[1, 2, 4])?);
+///
+/// // Three to five expiries in a row, and among other letters.
+/// let row: Rule = "{p0}[*3..5]".parse()?;
+/// assert_eq!((row.bytes(), row.weight()), (&[0x19, 3, 5, 0x10, 0x01, 0x00][..], 10));
+/// let among: Rule = "p0[=3..5]".parse()?;
+/// assert_eq!((among.bytes(), among.weight()), (&[0x1A, 3, 5, 0x01, 0x00][..], 7));
+/// assert!(!gongcollar::judge(row.bytes(), &[1, 0, 1, 1])?);
+/// assert!(gongcollar::judge(among.bytes(), &[1, 0, 1, 1])?);
 ///
 /// let refusal = "{p0; p1}".parse::<Rule>().unwrap_err();
 /// assert_eq!((refusal.number(), refusal.place()), (31, 4));

@@ -11,7 +11,7 @@
 //! |---|---|---|
 //! | numbers given back | `refusal` | [`Refusal`] |
 //! | formulas and their labels | `formula` | [`Formula`] |
-//! | rules and their weight | `rule` | [`Rule`] |
+//! | rules and their weight | `rule` | [`Rule`], [`Counts`] |
 //! | bytes to rules | `reader` | [`read_rule`], [`ReadRule`] |
 //! | Definition 2 | `meaning` | [`accepts`] |
 //! | the plain judge | `judge` | [`judge()`] |
@@ -52,7 +52,7 @@ pub use meaning::accepts;
 pub use model::{read_model, Model};
 pub use reader::{read_rule, ReadRule};
 pub use refusal::Refusal;
-pub use rule::Rule;
+pub use rule::{Counts, Rule};
 pub use search::{search, search_trimmed, Searched};
 pub use table::{build, Table, TABLE_ENTRIES};
 pub use text::{read_text, write_text, Given};

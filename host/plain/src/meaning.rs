@@ -1,6 +1,6 @@
 //! Definition 2: which sequences a rule accepts, found by splitting them.
 
-use crate::rule::Rule;
+use crate::rule::{Rule, LAST_COUNT};
 
 /// Whether the rule accepts the letters, by Definition 2.
 pub fn accepts(rule: &Rule, letters: &[u8]) -> bool {
@@ -16,6 +16,8 @@ struct Subrule<'a> {
     operands: Vec<Subrule<'a>>,
     accepted: Memory,
     repeated: Memory,
+    /// Rows of as many parts as the index says.
+    rows: Vec<Memory>,
 }
 
 impl<'a> Subrule<'a> {
@@ -31,6 +33,9 @@ impl<'a> Subrule<'a> {
             operands,
             accepted: Memory::new(letters.len()),
             repeated: Memory::new(letters.len()),
+            rows: (0..=LAST_COUNT)
+                .map(|_| Memory::new(letters.len()))
+                .collect(),
         }
     }
 
@@ -61,6 +66,12 @@ impl<'a> Subrule<'a> {
             Rule::EqualAnd(..) => self.first(from, to) && self.second(from, to),
             Rule::Star(_) => self.repeats(from, to),
             Rule::Plus(_) => (from..=to).any(|cut| self.first(from, cut) && self.repeats(cut, to)),
+            Rule::Counted(counts, _) => counts.numbers().any(|parts| self.row(parts, from, to)),
+            Rule::Hits(counts, formula) => {
+                let letters = &self.letters[from..to];
+                let satisfy = letters.iter().filter(|&&letter| formula.holds(letter));
+                counts.numbers().contains(&satisfy.count())
+            }
         }
     }
 
@@ -84,18 +95,31 @@ impl<'a> Subrule<'a> {
         self.repeated.keep(from, to, answer);
         answer
     }
+
+    /// Whether so many parts in a row, which the operand accepts, are the part; some of them may be empty.
+    fn row(&mut self, parts: usize, from: usize, to: usize) -> bool {
+        if parts == 0 {
+            return from == to;
+        }
+        if let Some(known) = self.rows[parts].recall(from, to) {
+            return known;
+        }
+        let answer = (from..=to).any(|cut| self.first(from, cut) && self.row(parts - 1, cut, to));
+        self.rows[parts].keep(from, to, answer);
+        answer
+    }
 }
 
 /// The rules that a rule is made of, none, one or two.
 fn operands(rule: &Rule) -> Vec<&Rule> {
     match rule {
-        Rule::Letter(_) | Rule::Empty => vec![],
+        Rule::Letter(_) | Rule::Empty | Rule::Hits(..) => vec![],
         Rule::Then(a, b)
         | Rule::Overlap(a, b)
         | Rule::Or(a, b)
         | Rule::LooseAnd(a, b)
         | Rule::EqualAnd(a, b) => vec![a, b],
-        Rule::Star(a) | Rule::Plus(a) => vec![a],
+        Rule::Star(a) | Rule::Plus(a) | Rule::Counted(_, a) => vec![a],
     }
 }
 

@@ -3,10 +3,10 @@
 use crate::bytes::Bytes;
 use crate::formula::{Formula, LAST_PROPOSITION};
 use crate::refusal::{
-    Refusal, BYTES_AFTER_RULE, KIND_OUT_OF_PLACE, NO_SUCH_PROPOSITION, RULE_ENDED, RULE_TOO_LONG,
-    TOO_HEAVY, UNKNOWN_KIND,
+    Refusal, BYTES_AFTER_RULE, KIND_OUT_OF_PLACE, NO_COUNTS, NO_SUCH_PROPOSITION, RULE_ENDED,
+    RULE_TOO_LONG, TOO_HEAVY, UNKNOWN_KIND,
 };
-use crate::rule::Rule;
+use crate::rule::{Counts, Rule};
 
 /// The most bytes that a rule may have.
 const LONGEST_RULE: usize = 255;
@@ -30,6 +30,8 @@ const LOOSE_AND: u8 = 0x15;
 const EQUAL_AND: u8 = 0x16;
 const STAR: u8 = 0x17;
 const PLUS: u8 = 0x18;
+const COUNTED: u8 = 0x19;
+const HITS: u8 = 0x1A;
 
 /// A rule that was accepted.
 #[derive(Debug, Clone, PartialEq, Eq)]
@@ -40,7 +42,7 @@ pub struct ReadRule {
     pub weight: u64,
 }
 
-/// Reads a rule, or refuses it with 1 to 7.
+/// Reads a rule, or refuses it with 1 to 8.
 pub fn read_rule(rule: &[u8]) -> Result<ReadRule, Refusal> {
     if rule.len() > LONGEST_RULE {
         return Err(Refusal::at(RULE_TOO_LONG, 0));
@@ -74,6 +76,8 @@ fn next_rule(bytes: &mut Bytes) -> Result<Rule, Refusal> {
         EQUAL_AND => Ok(Rule::EqualAnd(boxed_rule(bytes)?, boxed_rule(bytes)?)),
         STAR => Ok(Rule::Star(boxed_rule(bytes)?)),
         PLUS => Ok(Rule::Plus(boxed_rule(bytes)?)),
+        COUNTED => Ok(Rule::Counted(next_counts(bytes)?, boxed_rule(bytes)?)),
+        HITS => Ok(Rule::Hits(next_counts(bytes)?, next_formula(bytes)?)),
         PROPOSITION..=OR => Err(Refusal::at(KIND_OUT_OF_PLACE, place)),
         _ => Err(Refusal::at(UNKNOWN_KIND, place)),
     }
@@ -90,7 +94,7 @@ fn next_formula(bytes: &mut Bytes) -> Result<Formula, Refusal> {
         NOT => Ok(Formula::Not(boxed_formula(bytes)?)),
         AND => Ok(Formula::And(boxed_formula(bytes)?, boxed_formula(bytes)?)),
         OR => Ok(Formula::Or(boxed_formula(bytes)?, boxed_formula(bytes)?)),
-        LETTER..=PLUS => Err(Refusal::at(KIND_OUT_OF_PLACE, place)),
+        LETTER..=HITS => Err(Refusal::at(KIND_OUT_OF_PLACE, place)),
         _ => Err(Refusal::at(UNKNOWN_KIND, place)),
     }
 }
@@ -103,6 +107,14 @@ fn next_proposition(bytes: &mut Bytes) -> Result<Formula, Refusal> {
         return Err(Refusal::at(NO_SUCH_PROPOSITION, place));
     }
     Ok(Formula::Proposition(number))
+}
+
+/// The counts that are the next two bytes, which are both there before either is at fault.
+fn next_counts(bytes: &mut Bytes) -> Result<Counts, Refusal> {
+    let place = bytes.place();
+    let least = bytes.next(RULE_ENDED)?;
+    let most = bytes.next(RULE_ENDED)?;
+    Counts::of(least, most).ok_or(Refusal::at(NO_COUNTS, place))
 }
 
 fn boxed_rule(bytes: &mut Bytes) -> Result<Box<Rule>, Refusal> {

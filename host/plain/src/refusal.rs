@@ -26,6 +26,7 @@ pub(crate) const KIND_OUT_OF_PLACE: u64 = 4;
 pub(crate) const NO_SUCH_PROPOSITION: u64 = 5;
 pub(crate) const BYTES_AFTER_RULE: u64 = 6;
 pub(crate) const TOO_HEAVY: u64 = 7;
+pub(crate) const NO_COUNTS: u64 = 8;
 pub(crate) const TOO_MANY_STATES: u64 = 11;
 pub(crate) const NOT_A_STATE: u64 = 12;
 pub(crate) const STATE_CUT_SHORT: u64 = 13;

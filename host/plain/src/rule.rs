@@ -1,4 +1,6 @@
-//! Rules: the SEREs of Definition 1.
+//! Rules: the SEREs of Definition 1, and those of request 2026-05.
+
+use std::ops::RangeInclusive;
 
 use crate::formula::Formula;
 
@@ -23,13 +25,41 @@ pub enum Rule {
     Star(Box<Rule>),
     /// `[+]`, at least once.
     Plus(Box<Rule>),
+    /// `[*i..j]`, so many parts in a row.
+    Counted(Counts, Box<Rule>),
+    /// `[=i..j]`, so many letters that satisfy the formula, others anywhere.
+    Hits(Counts, Formula),
+}
+
+/// The highest count.
+pub(crate) const LAST_COUNT: u8 = 15;
+
+/// The numbers from the least to the most, both included.
+#[derive(Debug, Clone, Copy, PartialEq, Eq)]
+pub struct Counts {
+    /// At most the other one.
+    pub least: u8,
+    /// At most 15.
+    pub most: u8,
+}
+
+impl Counts {
+    /// The counts of two bytes, if they are such.
+    pub(crate) fn of(least: u8, most: u8) -> Option<Counts> {
+        (least <= most && most <= LAST_COUNT).then_some(Counts { least, most })
+    }
+
+    /// The numbers.
+    pub(crate) fn numbers(self) -> RangeInclusive<usize> {
+        self.least.into()..=self.most.into()
+    }
 }
 
 impl Rule {
     /// The number of states of the rule's table.
     ///
-    /// 255 bytes can ask for more than any word holds; the largest number stands for those, since no
-    /// operator weighs less than its operands.
+    /// 255 bytes can ask for more than any word holds; the largest number stands for those. Every operator weighs at
+    /// least what its operands weigh, but for no parts of a rule, which weigh 1 whatever the rule is.
     pub fn weight(&self) -> u128 {
         match self {
             Rule::Letter(_) => 2,
@@ -39,20 +69,25 @@ impl Rule {
             Rule::LooseAnd(a, b) => loose_and_weight(a.weight(), b.weight()),
             Rule::EqualAnd(a, b) => a.weight().saturating_mul(b.weight()),
             Rule::Star(a) | Rule::Plus(a) => a.weight(),
+            Rule::Counted(counts, a) => match counts.most {
+                0 => 1,
+                most => a.weight().saturating_mul(most.into()),
+            },
+            Rule::Hits(counts, _) => u128::from(counts.most) + 2,
         }
     }
 
     /// The set of the propositions that stand in the rule, whether or not they matter.
     pub fn names(&self) -> u64 {
         match self {
-            Rule::Letter(formula) => formula.names(),
+            Rule::Letter(formula) | Rule::Hits(_, formula) => formula.names(),
             Rule::Empty => 0,
             Rule::Then(a, b)
             | Rule::Overlap(a, b)
             | Rule::Or(a, b)
             | Rule::LooseAnd(a, b)
             | Rule::EqualAnd(a, b) => a.names() | b.names(),
-            Rule::Star(a) | Rule::Plus(a) => a.names(),
+            Rule::Star(a) | Rule::Plus(a) | Rule::Counted(_, a) => a.names(),
         }
     }
 }

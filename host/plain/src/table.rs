@@ -1,10 +1,11 @@
-//! The rule's automaton with symbolic labels, in the scope document's numbering of states.
+//! The rule's automaton with symbolic labels, in the scope document's numbering of states; for counted rules in the
+//! project's own.
 
 use std::ops::Range;
 
 use crate::reader::read_rule;
 use crate::refusal::{Refusal, SLICE_TOO_SHORT};
-use crate::rule::Rule;
+use crate::rule::{Counts, Rule};
 use crate::set::{has, only, WORD};
 
 /// How many labels a table has: one for each two of 64 states.
@@ -50,6 +51,10 @@ pub(crate) fn table_of(rule: &Rule) -> Table {
         Rule::EqualAnd(a, b) => equal_and(&table_of(a), &table_of(b)),
         Rule::Star(a) => star(&table_of(a)),
         Rule::Plus(a) => plus(&table_of(a)),
+        // An operand of which there are no parts may weigh anything.
+        Rule::Counted(Counts { most: 0, .. }, _) => empty(),
+        Rule::Counted(counts, a) => counted(*counts, &table_of(a)),
+        Rule::Hits(counts, formula) => hits(*counts, formula.label()),
     }
 }
 
@@ -152,6 +157,42 @@ fn plus(a: &Table) -> Table {
 fn star(a: &Table) -> Table {
     let mut table = plus(a);
     table.make_final(0);
+    table
+}
+
+/// `[*i..j]`: j copies of a, each put before the later ones by `;`, so that copy c of a's m states stands at c·m. It may
+/// end before a copy as soon as there were i parts.
+fn counted(counts: Counts, a: &Table) -> Table {
+    let most = counts.most.into();
+    let mut rest = empty();
+    for copies in 1..=most {
+        // These are the last copies: so many parts were had before them.
+        let had = most - copies;
+        rest = match copies {
+            1 => a.clone(),
+            _ => then(a, &rest),
+        };
+        if had >= counts.least.into() {
+            rest.make_final(0);
+        }
+    }
+    rest
+}
+
+/// `[=i..j]`: state 0 before the first letter, and 1+c after letters of which c satisfied the formula.
+fn hits(counts: Counts, label: u64) -> Table {
+    let most = usize::from(counts.most);
+    let mut table = Table::of_weight(most + 2);
+    for state in table.states() {
+        let satisfied = state.saturating_sub(1);
+        table.unite(state, 1 + satisfied, !label);
+        if satisfied < most {
+            table.unite(state, 2 + satisfied, label);
+        }
+        if counts.numbers().contains(&satisfied) {
+            table.make_final(state);
+        }
+    }
     table
 }
 

@@ -1,12 +1,12 @@
-//! Rules as text, request 2026-01.
+//! Rules as text, requests 2026-01 and 2026-05.
 //!
-//! A text is read by a grammar that is written down as data: each symbol has its ways on, each of which begins with a
-//! character of its own. So what was taken can always be gone on with, and a character that no way begins with is where
-//! the longest beginning of a rule text ends.
+//! A text is read by a grammar that is written down as data: each symbol has its ways on. All that may still be needed is
+//! kept, for every way that the characters so far could have been taken, and each of these can be gone on with; a
+//! character that none of them takes is where the longest beginning of a rule text ends.
 
 use crate::formula::Formula;
 use crate::refusal::{Refusal, NO_TEXT, OUTPUT_TOO_SHORT, RULE_TOO_LONG, TEXT_TOO_LONG, TOO_HEAVY};
-use crate::rule::Rule;
+use crate::rule::{Counts, Rule, LAST_COUNT};
 use crate::{read_rule, ReadRule};
 
 /// The most characters that a text may have.
@@ -73,6 +73,11 @@ fn put_rule(rule: &Rule, out: &mut String) {
         Rule::EqualAnd(a, b) => put_pair(a, "&&", b, out),
         Rule::Star(a) => put_repeat(a, "[*]", out),
         Rule::Plus(a) => put_repeat(a, "[+]", out),
+        Rule::Counted(counts, a) => put_repeat(a, &format!("[*{}", counts_text(*counts)), out),
+        Rule::Hits(counts, formula) => {
+            put_formula(formula, out);
+            out.push_str(&format!("[={}", counts_text(*counts)));
+        }
     }
 }
 
@@ -89,6 +94,11 @@ fn put_repeat(a: &Rule, sign: &str, out: &mut String) {
     put_rule(a, out);
     out.push('}');
     out.push_str(sign);
+}
+
+/// What follows `[*` or `[=`.
+fn counts_text(counts: Counts) -> String {
+    format!("{}..{}]", counts.least, counts.most)
 }
 
 fn put_formula(formula: &Formula, out: &mut String) {
@@ -114,7 +124,8 @@ fn put_join(a: &Formula, sign: char, b: &Formula, out: &mut String) {
 }
 
 /// What may be needed next, beside a very character: a rule; a formula; the digit of a proposition; what follows the
-/// first formula of a pair, the first rule of a pair or of a repetition, and `&` between two rules; what follows `}[`.
+/// first formula of a pair, the first rule of a pair or of a repetition, and `&` between two rules; what follows `}[`;
+/// what may follow a formula that stands as a rule; what follows `[*` or `[=`.
 const RULE: u8 = b'R';
 const FORMULA: u8 = b'F';
 const DIGIT: u8 = b'D';
@@ -122,15 +133,21 @@ const JOIN: u8 = b'J';
 const TAIL: u8 = b'T';
 const SECOND: u8 = b'S';
 const REPEAT: u8 = b'A';
+const HITS: u8 = b'H';
+const COUNTS: u8 = b'C';
 
 const FORMULAS: [&str; 5] = ["pD", "true", "false", "!F", "(FJ"];
 const RULES: [&str; 2] = ["[*0]", "{RT"];
 
-/// The ways on from a symbol. No two begin alike, and capitals are no characters of a text.
+/// The ways on from a symbol. None begins with a capital, and capitals are no characters of a text.
 fn ways(symbol: u8) -> Vec<String> {
     let owned = |ways: &[&str]| ways.iter().map(|way| way.to_string()).collect();
     match symbol {
-        RULE => owned(&[&RULES[..], &FORMULAS].concat()),
+        RULE => {
+            let mut both: Vec<String> = owned(&RULES);
+            both.extend(FORMULAS.iter().map(|way| format!("{way}H")));
+            both
+        }
         FORMULA => owned(&FORMULAS),
         DIGIT => owned(&["0", "1", "2", "3", "4", "5"]),
         JOIN => owned(&["&F)", "|F)"]),
@@ -141,25 +158,48 @@ fn ways(symbol: u8) -> Vec<String> {
             both.extend(ways(RULE).iter().map(|way| format!("{way}}}")));
             both
         }
-        REPEAT => owned(&["*]", "+]"]),
+        REPEAT => owned(&["*]", "+]", "*C"]),
+        HITS => owned(&["", "[=C"]),
+        COUNTS => all_counts().map(counts_text).collect(),
         character => vec![char::from(character).to_string()],
     }
 }
 
+/// All that can be said of how many.
+fn all_counts() -> impl Iterator<Item = Counts> {
+    let pairs = (0..=LAST_COUNT).flat_map(|least| (0..=LAST_COUNT).map(move |most| (least, most)));
+    pairs.filter_map(|(least, most)| Counts::of(least, most))
+}
+
+/// What is needed after the character, for every way that it can be taken; what is needed first stands last.
+fn after(needed: &[u8], character: u8) -> Vec<Vec<u8>> {
+    let Some((&symbol, later)) = needed.split_last() else {
+        return Vec::new();
+    };
+    let taken = |way: String| match way.as_bytes() {
+        [] => after(later, character),
+        [first, rest @ ..] if *first == character => {
+            let mut next = later.to_vec();
+            next.extend(rest.iter().rev());
+            vec![next]
+        }
+        _ => Vec::new(),
+    };
+    ways(symbol).into_iter().flat_map(taken).collect()
+}
+
 /// The length of the longest beginning that some rule text shares; nothing where the text is a rule's.
 fn first_fault(text: &[u8]) -> Option<usize> {
-    let mut needed = vec![RULE];
+    let mut possible = vec![vec![RULE]];
     for (place, &character) in text.iter().enumerate() {
-        let fitting = needed.pop().and_then(|symbol| {
-            let begins = |way: &String| way.as_bytes().first() == Some(&character);
-            ways(symbol).into_iter().find(begins)
-        });
-        match fitting {
-            Some(way) => needed.extend(way.bytes().skip(1).rev()),
-            None => return Some(place),
+        let taken = possible.iter().flat_map(|needed| after(needed, character));
+        possible = taken.collect();
+        if possible.is_empty() {
+            return Some(place);
         }
     }
-    (!needed.is_empty()).then_some(text.len())
+    let complete = |needed: &Vec<u8>| needed.iter().all(|&symbol| symbol == HITS);
+    (!possible.iter().any(complete)).then_some(text.len())
 }
 
 /// The bytes of a text that is a rule's.
@@ -181,7 +221,7 @@ fn rule_bytes<'a>(text: &'a [u8], bytes: &mut Vec<u8>) -> &'a [u8] {
             let kind = bytes.len();
             bytes.push(0);
             let rest = rule_bytes(&text[1..], bytes);
-            let signs: [(&[u8], u8); 7] = [
+            let signs: [(&[u8], u8); 8] = [
                 (b";", 0x12),
                 (b":", 0x13),
                 (b"|", 0x14),
@@ -189,6 +229,7 @@ fn rule_bytes<'a>(text: &'a [u8], bytes: &mut Vec<u8>) -> &'a [u8] {
                 (b"&", 0x15),
                 (b"}[*]", 0x17),
                 (b"}[+]", 0x18),
+                (b"}[*", 0x19),
             ];
             let (sign, byte) = *signs
                 .iter()
@@ -198,14 +239,31 @@ fn rule_bytes<'a>(text: &'a [u8], bytes: &mut Vec<u8>) -> &'a [u8] {
             let rest = &rest[sign.len()..];
             match byte {
                 0x17 | 0x18 => rest,
+                0x19 => counts_bytes(rest, kind + 1, bytes),
                 _ => &rule_bytes(rest, bytes)[1..],
             }
         }
         _ => {
+            let kind = bytes.len();
             bytes.push(0x10);
-            formula_bytes(text, bytes)
+            let rest = formula_bytes(text, bytes);
+            match rest.strip_prefix(b"[=") {
+                None => rest,
+                Some(counts) => {
+                    bytes[kind] = 0x1A;
+                    counts_bytes(counts, kind + 1, bytes)
+                }
+            }
         }
     }
+}
+
+/// Takes counts from the front of the text; their bytes stand before the operand's.
+fn counts_bytes<'a>(text: &'a [u8], place: usize, bytes: &mut Vec<u8>) -> &'a [u8] {
+    let begins = |counts: &Counts| text.starts_with(counts_text(*counts).as_bytes());
+    let counts = all_counts().find(begins).expect("counts");
+    bytes.splice(place..place, [counts.least, counts.most]);
+    &text[counts_text(counts).len()..]
 }
 
 /// Takes a formula from the front of the text.
@@ -265,16 +323,23 @@ mod tests {
         }
     }
 
+    /// A few counts, as the whole of them would be too many texts.
+    const A_FEW: [&str; 2] = ["0..1", "9..15"];
+
     fn texts(most: usize) -> BTreeSet<String> {
         let formulas = closed(&["p0", "p5", "true", "false"], most, |a, b| {
             vec![format!("!{a}"), format!("({a}&{b})"), format!("({a}|{b})")]
         });
         let mut words: Vec<&str> = formulas.iter().map(String::as_str).collect();
+        let hits = |formula: &String| A_FEW.map(|counts| format!("{formula}[={counts}]"));
+        let hits: Vec<String> = formulas.iter().flat_map(hits).collect();
+        words.extend(hits.iter().map(String::as_str));
         words.push("[*0]");
         closed(&words, most, |a, b| {
             let pair = |sign| format!("{{{a}{sign}{b}}}");
             let mut more: Vec<String> = [";", ":", "|", "&", "&&"].map(pair).to_vec();
             more.extend([format!("{{{a}}}[*]"), format!("{{{a}}}[+]")]);
+            more.extend(A_FEW.map(|counts| format!("{{{a}}}[*{counts}]")));
             more
         })
     }
@@ -290,6 +355,28 @@ mod tests {
             ("[*]", 2),
             ("tru", 3),
             ("p6", 1),
+            ("p0[", 3),
+            ("p0[=2..1", 8),
+            ("p0[=2..1]", 8),
+            ("p0[=3..2]", 7),
+            ("p0[=16", 5),
+            ("p0[=01", 5),
+            ("p0[=12..11]", 9),
+            ("p0[=1..16]", 8),
+            ("p0[=0..015]", 8),
+            ("p0[=1..0]", 7),
+            ("p0[=0.]", 6),
+            ("p0[=0..]", 7),
+            ("p0[*0..1]", 3),
+            ("(p0[=0..1]&p1)", 3),
+            ("!p0[=0..1][", 10),
+            ("{p0}[*0]", 7),
+            ("{p0}[=0..1]", 5),
+            ("{p0}[*3..2]", 9),
+            ("{p0}[*10..9]", 10),
+            ("[*0..1]", 3),
+            ("[*0][=0..1]", 4),
+            ("{p0}[*]x", 7),
         ];
         for (text, place) in cases {
             assert_eq!(first_fault(text.as_bytes()), Some(place), "{text}");
@@ -302,6 +389,55 @@ mod tests {
             let read = read_text(text.as_bytes(), LONGEST_RULE).unwrap();
             let back = write_text(&read.written, LONGEST_TEXT).unwrap();
             assert_eq!(back.written, text.as_bytes());
+        }
+    }
+
+    /// Every string of four characters after some beginnings, beside all texts of counts.
+    #[test]
+    fn counts_are_refused_where_no_counts_go_on() {
+        const CHARACTERS: &[u8; 7] = b"01269.]";
+        let texts: Vec<String> = all_counts().map(counts_text).collect();
+        assert_eq!(texts.len(), 136);
+        for (operator, given) in [
+            ("p0[=", ""),
+            ("p0[=", "2.."),
+            ("p0[=", "12.."),
+            ("{p0}[*", "1"),
+            ("{p0}[*", "1.."),
+        ] {
+            for number in 0..CHARACTERS.len().pow(4) {
+                let digit = |power| CHARACTERS[number / CHARACTERS.len().pow(power) % 7];
+                let string: Vec<u8> = given.bytes().chain((0..4).map(digit)).collect();
+                let shared = |n: &usize| {
+                    texts
+                        .iter()
+                        .any(|text| text.as_bytes().starts_with(&string[..*n]))
+                };
+                let longest = (0..=string.len()).rev().find(shared);
+                let place = longest.map(|n| operator.len() + n);
+                match first_fault(&[operator.as_bytes(), &string].concat()) {
+                    None => assert!(texts.iter().any(|text| text.as_bytes() == string)),
+                    fault => assert_eq!(fault, place, "{operator} {string:?}"),
+                }
+            }
+        }
+    }
+
+    #[test]
+    fn counts_are_read_and_written_back() {
+        for counts in all_counts() {
+            let (text, Counts { least, most }) = (counts_text(counts), counts);
+            let given = read_text(format!("!p5[={text}").as_bytes(), LONGEST_RULE).unwrap();
+            assert_eq!(given.written, [0x1A, least, most, 0x04, 0x01, 5]);
+            assert_eq!((given.weight, given.names), (u64::from(most) + 2, 1 << 5));
+            let given = read_text(format!("{{p4}}[*{text}").as_bytes(), LONGEST_RULE).unwrap();
+            assert_eq!(given.written, [0x19, least, most, 0x10, 0x01, 4]);
+            assert_eq!(
+                given.weight,
+                u64::from(most).max(1) * if most == 0 { 1 } else { 2 }
+            );
+            let back = write_text(&given.written, LONGEST_TEXT).unwrap();
+            assert_eq!(back.written, format!("{{p4}}[*{text}").as_bytes());
         }
     }
 

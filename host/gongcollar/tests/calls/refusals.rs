@@ -15,7 +15,8 @@ fn faulty_rules() -> Vec<(Vec<u8>, Refusal, u64)> {
         (vec![0x17; 256], Refusal::RuleTooLong { place: 0 }, 1),
         (vec![], Refusal::RuleEnded { place: 0 }, 2),
         (vec![0x10, 0x01], Refusal::RuleEnded { place: 2 }, 2),
-        (vec![0x12, 0x19], Refusal::UnknownKind { place: 1 }, 3),
+        (vec![0x12, 0x1B], Refusal::UnknownKind { place: 1 }, 3),
+        (vec![0x19, 0xFF], Refusal::RuleEnded { place: 2 }, 2),
         (vec![0x02], Refusal::WrongSort { place: 0 }, 4),
         (
             vec![0x10, 0x05, 0x02, 0x11],
@@ -33,7 +34,16 @@ fn faulty_rules() -> Vec<(Vec<u8>, Refusal, u64)> {
             Refusal::BytesAfterRule { place: 191 },
             6,
         ),
+        (
+            [&[0x12][..], &heavy, &[0x19, 2, 1]].concat(),
+            Refusal::BadCounts { place: 193 },
+            8,
+        ),
         (heavy, Refusal::TooHeavy { place: 0 }, 7),
+        (vec![0x19, 2, 1, 0xFF], Refusal::BadCounts { place: 1 }, 8),
+        (vec![0x19, 0, 16, 0x11], Refusal::BadCounts { place: 1 }, 8),
+        (vec![0x1A, 16, 16], Refusal::BadCounts { place: 1 }, 8),
+        (vec![0x1A, 15, 15, 0x11], Refusal::WrongSort { place: 3 }, 4),
     ]
 }
 

@@ -4,7 +4,7 @@ use cases::texts::MOST_CHARACTERS;
 use gongcollar::{read_text_into, write_text_into, Refusal, Rule, RULE_BYTES, TEXT_BYTES};
 
 /// Texts that are no rule's, with the length of the longest beginning that some rule's has.
-const BROKEN: [(&str, u64); 14] = [
+const BROKEN: [(&str, u64); 23] = [
     ("", 0),
     ("p0x", 2),
     ("{p0}", 4),
@@ -19,6 +19,15 @@ const BROKEN: [(&str, u64); 14] = [
     ("{p0; p1}", 4),
     ("\u{fc}", 0),
     ("{p0}[*]x", 7),
+    ("p0[", 3),
+    ("p0[=2..1", 8),
+    ("p0[=2..1]", 8),
+    ("p0[=3..2]", 7),
+    ("p0[=16", 5),
+    ("p0[=01", 5),
+    ("p0[=12..11]", 9),
+    ("{p0}[*0]", 7),
+    ("{p0}[=0..1]", 5),
 ];
 
 fn refused(text: &str, number: u64, place: u64) {
@@ -100,6 +109,12 @@ fn every_form_is_written_as_it_was_read() {
         "{p0}[*]",
         "{p0}[+]",
         "{{[*0]}[+];{{p1}[*]:p2}}",
+        "{p0}[*0..0]",
+        "{p0}[*3..5]",
+        "{[*0]}[*15..15]",
+        "p0[=3..5]",
+        "!(p0|true)[=0..10]",
+        "{{p0[=9..10]}[*1..1]&p1[=0..0]}",
     ] {
         let rule: Rule = text.parse().unwrap();
         assert_eq!(rule.to_string(), text);

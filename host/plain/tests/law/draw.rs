@@ -1,6 +1,6 @@
 //! Rules, models and letters drawn from a seed.
 
-use crate::spell::{letter, node, or, proposition, state, then, Spelled};
+use crate::spell::{counted, hits, letter, node, or, proposition, state, then, Spelled};
 
 fn weighs_at_most(rule: &[u8], most: u64) -> bool {
     plain::read_rule(rule).is_ok_and(|read| read.weight <= most)
@@ -58,20 +58,33 @@ impl Draw {
         if depth == 0 || self.once_in(6) {
             return self.small_rule(propositions);
         }
-        let kind = 0x12 + self.below(7) as u8;
+        let kind = 0x12 + self.below(8) as u8;
         let a = self.rule(depth - 1, propositions);
-        if kind >= 0x17 {
-            return node(kind, &[&a]);
+        match kind {
+            0x17 | 0x18 => node(kind, &[&a]),
+            0x19 => {
+                let (least, most) = self.counts();
+                counted(least, most, &a)
+            }
+            _ => node(kind, &[&a, &self.rule(depth - 1, propositions)]),
         }
-        let b = self.rule(depth - 1, propositions);
-        node(kind, &[&a, &b])
+    }
+
+    /// Counts of which the larger is mostly small.
+    fn counts(&mut self) -> (u8, u8) {
+        let bound = if self.once_in(4) { 16 } else { 4 };
+        let most = self.below(bound);
+        (self.below(most + 1) as u8, most as u8)
     }
 
     fn small_rule(&mut self, propositions: usize) -> Spelled {
-        if self.once_in(5) {
-            vec![0x11]
-        } else {
-            letter(&self.formula(2, propositions))
+        match self.below(10) {
+            0 | 1 => vec![0x11],
+            2 => {
+                let (least, most) = self.counts();
+                hits(least, most, &self.formula(2, propositions))
+            }
+            _ => letter(&self.formula(2, propositions)),
         }
     }
 

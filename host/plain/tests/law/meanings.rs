@@ -26,6 +26,23 @@ pub fn by_splitting(rule: &Rule, w: &[u8]) -> bool {
         Rule::Plus(a) => {
             (0..=n).any(|cut| by_splitting(a, &w[..cut]) && star_by_splitting(a, &w[cut..]))
         }
+        Rule::Counted(counts, a) => {
+            (counts.least..=counts.most).any(|parts| row_by_splitting(a, parts, w))
+        }
+        Rule::Hits(counts, formula) => {
+            let satisfy = w.iter().filter(|&&letter| formula.holds(letter)).count();
+            usize::from(counts.least) <= satisfy && satisfy <= usize::from(counts.most)
+        }
+    }
+}
+
+/// So many parts in a row; of parts that are all empty one speaks for all, so that not every split is tried.
+fn row_by_splitting(a: &Rule, parts: u8, w: &[u8]) -> bool {
+    match (parts, w) {
+        (0, w) => w.is_empty(),
+        (_, []) => by_splitting(a, &[]),
+        _ => (0..=w.len())
+            .any(|cut| by_splitting(a, &w[..cut]) && row_by_splitting(a, parts - 1, &w[cut..])),
     }
 }
 
@@ -95,6 +112,52 @@ fn readings_that_are_easily_mistaken() {
 }
 
 #[test]
+fn parts_in_a_row() {
+    // Three to five expiries.
+    let expiries = counted(3, 5, &p(0));
+    for length in 0..8 {
+        hold(&expiries, &vec![1; length], (3..=5).contains(&length));
+    }
+    hold(&expiries, &[1, 1, 0, 1], false);
+    // Empty parts count.
+    hold(&counted(3, 3, &empty()), &[], true);
+    hold(&counted(3, 3, &empty()), &[0], false);
+    hold(&counted(2, 2, &star(&p(0))), &[1], true);
+    hold(&counted(2, 2, &star(&p(0))), &[], true);
+    // Parts of several lengths.
+    let one_or_two = or(&p(0), &then(&p(0), &p(0)));
+    hold(&counted(2, 2, &one_or_two), &[1], false);
+    hold(&counted(2, 2, &one_or_two), &[1; 4], true);
+    hold(&counted(2, 2, &one_or_two), &[1; 5], false);
+    // No parts are the empty sequence, whatever the operand is.
+    hold(&counted(0, 0, &p(0)), &[], true);
+    hold(&counted(0, 0, &p(0)), &[1], false);
+    hold(&counted(0, 1, &p(0)), &[], true);
+    hold(&counted(0, 1, &p(0)), &[1], true);
+    hold(&counted(0, 1, &p(0)), &[1, 1], false);
+    hold(&counted(15, 15, &p(0)), &[1; 15], true);
+    hold(&counted(15, 15, &p(0)), &[1; 16], false);
+    let heavy = nested(0x15, 40, &p(0));
+    assert_eq!(judge(&counted(0, 0, &heavy), &[1]), Ok(false));
+}
+
+#[test]
+fn letters_that_satisfy() {
+    let expiries = hits(3, 5, &proposition(0));
+    hold(&expiries, &[1, 1, 1], true);
+    hold(&expiries, &[0, 1, 2, 3, 4, 5, 6], true);
+    hold(&expiries, &[1, 1], false);
+    hold(&expiries, &[1; 6], false);
+    hold(&expiries, &[], false);
+    hold(&hits(0, 0, &proposition(0)), &[], true);
+    hold(&hits(0, 0, &proposition(0)), &[0, 2, 4], true);
+    hold(&hits(0, 0, &proposition(0)), &[0, 1], false);
+    hold(&hits(2, 2, &[0x02]), &[9, 0], true);
+    hold(&hits(1, 15, &[0x03]), &[9, 0], false);
+    hold(&hits(15, 15, &proposition(0)), &[1; 15], true);
+}
+
+#[test]
 fn the_judge_refuses_in_order() {
     let rule = p(0);
     assert_eq!(judge(&[], &[64; 17]), refused(2, 0));
@@ -117,6 +180,14 @@ fn deep_rules_are_judged_soon() {
     assert_eq!(judge(&nested(0x16, 127, &empty()), &[]), Ok(true));
     let nots = letter(&repeated(0x04, 253, &[0x02]));
     assert_eq!(judge(&nots, &[0]), Ok(false));
+    // Counts as deep as bytes and weight allow: fifteen empty parts above, below and between single ones.
+    let once = |times, rule: Vec<u8>| (0..times).fold(rule, |rule, _| counted(1, 1, &rule));
+    let many = counted(15, 15, &counted(0, 2, &plus(&p(0))));
+    assert_eq!(judge(&once(80, many), &[1; 16]), Ok(true));
+    let many = counted(0, 15, &counted(2, 2, &once(79, star(&p(0)))));
+    assert_eq!(judge(&many, &last_wrong), Ok(false));
+    let between = counted(15, 15, &once(80, counted(0, 4, &empty())));
+    assert_eq!(judge(&between, &[1; 16]), Ok(false));
 }
 
 #[test]

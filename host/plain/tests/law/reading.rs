@@ -1,4 +1,4 @@
-//! Rules: what is accepted, what it weighs, and refusals 1 to 7.
+//! Rules: what is accepted, what it weighs, and refusals 1 to 8.
 
 use crate::spell::*;
 use plain::{read_rule, Formula, Refusal, Rule};
@@ -46,6 +46,12 @@ fn each_operator_weighs_what_it_should() {
     assert_eq!(weight(&loose_and(&a, &b)), Ok(23));
     assert_eq!(weight(&star(&a)), Ok(3));
     assert_eq!(weight(&plus(&a)), Ok(3));
+    assert_eq!(weight(&counted(2, 7, &a)), Ok(21));
+    assert_eq!(weight(&counted(0, 1, &a)), Ok(3));
+    assert_eq!(weight(&counted(0, 0, &a)), Ok(1));
+    assert_eq!(weight(&counted(15, 15, &b)), Ok(30));
+    assert_eq!(weight(&hits(0, 0, &[0x02])), Ok(2));
+    assert_eq!(weight(&hits(3, 15, &[0x02])), Ok(17));
 }
 
 #[test]
@@ -89,7 +95,7 @@ fn refusal_2_stands_at_the_length() {
 
 #[test]
 fn refusal_3_stands_at_an_unknown_kind() {
-    for kind in [0x00, 0x07, 0x0F, 0x19, 0x1A, 0x20, 0xFF] {
+    for kind in [0x00, 0x07, 0x0F, 0x1B, 0x1F, 0x20, 0xFF] {
         assert_eq!(weight(&[kind]), refused(3, 0));
         assert_eq!(weight(&[0x10, kind]), refused(3, 1));
         assert_eq!(weight(&[0x12, 0x11, kind]), refused(3, 2));
@@ -102,7 +108,7 @@ fn refusal_4_stands_at_a_kind_out_of_place() {
         assert_eq!(weight(&[kind]), refused(4, 0));
         assert_eq!(weight(&[0x12, 0x10, 0x02, kind]), refused(4, 3));
     }
-    for kind in 0x10..=0x18 {
+    for kind in 0x10..=0x1A {
         assert_eq!(weight(&[0x10, kind]), refused(4, 1));
         assert_eq!(weight(&[0x10, 0x06, 0x03, kind]), refused(4, 3));
     }
@@ -119,6 +125,70 @@ fn refusal_5_stands_at_the_body() {
 fn refusal_6_stands_at_the_first_byte_too_many() {
     assert_eq!(weight(&[0x11, 0x11]), refused(6, 1));
     assert_eq!(weight(&[0x10, 0x02, 0xFF, 0xFF]), refused(6, 2));
+}
+
+#[test]
+fn refusal_8_stands_at_the_first_count() {
+    for kind in [0x19, 0x1A] {
+        for (least, most) in [(1, 0), (15, 14), (0, 16), (16, 16), (255, 255), (0, 255)] {
+            assert_eq!(weight(&[kind, least, most]), refused(8, 1));
+            // Before any fault of the operand.
+            assert_eq!(weight(&[kind, least, most, 0xFF]), refused(8, 1));
+            assert_eq!(weight(&[0x12, 0x11, kind, least, most]), refused(8, 3));
+        }
+        assert_eq!(weight(&[kind]), refused(2, 1));
+        assert_eq!(weight(&[kind, 0xFF]), refused(2, 2));
+        assert_eq!(weight(&[kind, 15, 15]), refused(2, 3));
+        assert_eq!(weight(&[kind, 0, 0]), refused(2, 3));
+        assert_eq!(weight(&[kind, 0, 0, 0xFF]), refused(3, 3));
+    }
+    assert_eq!(weight(&[0x19, 0, 0, 0x02]), refused(4, 3));
+    assert_eq!(weight(&[0x1A, 0, 0, 0x11]), refused(4, 3));
+    assert_eq!(weight(&[0x1A, 0, 0, 0x01, 6]), refused(5, 4));
+    assert_eq!(weight(&[0x1A, 0, 0, 0x01, 5, 0]), refused(6, 5));
+    // Before 7.
+    let heavy = nested(0x16, 63, &anything());
+    assert_eq!(weight(&then(&heavy, &[0x1A, 2, 1])), refused(8, 193));
+}
+
+#[test]
+fn no_parts_weigh_1_whatever_they_are_of() {
+    for heavy in [nested(0x16, 63, &anything()), nested(0x15, 83, &anything())] {
+        assert_eq!(weight(&heavy), refused(7, 0));
+        assert_eq!(weight(&counted(0, 0, &heavy)), Ok(1));
+        assert_eq!(weight(&counted(0, 1, &heavy)), refused(7, 0));
+        assert_eq!(
+            weight(&then(&p(0), &counted(0, 0, &heavy))[..3]),
+            refused(2, 3)
+        );
+    }
+    let named = read_rule(&counted(0, 0, &nested(0x16, 40, &p(4)))).unwrap();
+    assert_eq!(named.rule.names(), 1 << 4);
+    let named = read_rule(&then(&hits(0, 0, &proposition(5)), &p(1))).unwrap();
+    assert_eq!(named.rule.names(), 0b100010);
+}
+
+#[test]
+fn counts_weigh_64_and_65() {
+    assert_eq!(
+        weight(&then(
+            &counted(0, 15, &counted(2, 2, &p(0))),
+            &nested(0x12, 1, &p(0))
+        )),
+        Ok(64)
+    );
+    assert_eq!(
+        weight(&counted(1, 13, &nested(0x12, 4, &empty()))),
+        refused(7, 0)
+    );
+    assert_eq!(
+        weight(&counted(1, 15, &counted(1, 15, &empty()))),
+        refused(7, 0)
+    );
+    let ones = (0..84).fold(empty(), |rule, _| counted(1, 1, &rule));
+    assert_eq!(weight(&ones), Ok(1));
+    let most = (0..84).fold(empty(), |rule, _| counted(15, 15, &rule));
+    assert_eq!(weight(&most), refused(7, 0));
 }
 
 #[test]

@@ -72,6 +72,16 @@ pub fn plus(a: &[u8]) -> Spelled {
     node(0x18, &[a])
 }
 
+/// So many parts of a rule in a row.
+pub fn counted(least: u8, most: u8, a: &[u8]) -> Spelled {
+    node(0x19, &[&[least, most], a])
+}
+
+/// So many letters that satisfy a formula.
+pub fn hits(least: u8, most: u8, formula: &[u8]) -> Spelled {
+    node(0x1A, &[&[least, most], formula])
+}
+
 /// The kind of two operands, so often over copies of one rule, nested to the right.
 pub fn nested(kind: u8, times: usize, operand: &[u8]) -> Spelled {
     (0..times).fold(operand.to_vec(), |inner, _| node(kind, &[operand, &inner]))

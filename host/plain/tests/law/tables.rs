@@ -159,6 +159,58 @@ fn tables_of_repetitions() {
 }
 
 #[test]
+fn tables_of_counted_parts() {
+    hold(&counted(0, 0, &p(0)), 1, &[0], &[]);
+    hold(&counted(0, 0, &nested(0x15, 40, &p(0))), 1, &[0], &[]);
+    hold(&counted(1, 1, &p(0)), 2, &[1], &[(0, 1, P0)]);
+    hold(&counted(0, 1, &p(0)), 2, &[0, 1], &[(0, 1, P0)]);
+    let labels = [(0, 1, P0), (1, 3, P0), (2, 3, P0)];
+    hold(&counted(2, 2, &p(0)), 4, &[3], &labels);
+    // The second copy may be left out: its state 0 is final, never entered, and makes the first one's finals final.
+    hold(&counted(1, 2, &p(0)), 4, &[1, 2, 3], &labels);
+    hold(&counted(0, 2, &p(0)), 4, &[0, 1, 2, 3], &labels);
+    let labels = [(0, 1, P0), (1, 3, P0), (2, 3, P0), (3, 5, P0), (4, 5, P0)];
+    hold(&counted(3, 3, &p(0)), 6, &[5], &labels);
+    hold(&counted(2, 3, &p(0)), 6, &[3, 4, 5], &labels);
+    hold(&counted(1, 3, &p(0)), 6, &[1, 2, 3, 4, 5], &labels);
+    hold(&counted(0, 3, &p(0)), 6, &[0, 1, 2, 3, 4, 5], &labels);
+    hold(&counted(3, 3, &empty()), 3, &[0, 1, 2], &[]);
+}
+
+#[test]
+fn counted_parts_are_written_out() {
+    let mut draw = Draw::new(5);
+    for _ in 0..40 {
+        let a = draw.light_rule(1, 2, 8);
+        let three = then(&a, &then(&a, &a));
+        let short = build(&counted(3, 3, &a), TABLE_ENTRIES);
+        assert!(short == build(&three, TABLE_ENTRIES), "{a:x?}");
+    }
+}
+
+#[test]
+fn tables_of_letters_that_satisfy() {
+    let not = !P1;
+    let p1 = proposition(1);
+    hold(&hits(0, 0, &p1), 2, &[0, 1], &[(0, 1, not), (1, 1, not)]);
+    let labels = [
+        (0, 1, not),
+        (0, 2, P1),
+        (1, 1, not),
+        (1, 2, P1),
+        (2, 2, not),
+    ];
+    hold(&hits(0, 1, &p1), 3, &[0, 1, 2], &labels);
+    hold(&hits(1, 1, &p1), 3, &[2], &labels);
+    let labels = [&labels[..], &[(2, 3, P1), (3, 3, not)]].concat();
+    hold(&hits(0, 2, &p1), 4, &[0, 1, 2, 3], &labels);
+    hold(&hits(1, 2, &p1), 4, &[2, 3], &labels);
+    hold(&hits(2, 2, &p1), 4, &[3], &labels);
+    let labels = [(0, 2, TRUE), (1, 2, TRUE)];
+    hold(&hits(0, 1, &[0x02]), 3, &[0, 1, 2], &labels);
+}
+
+#[test]
 fn the_builder_refuses_the_rule_first() {
     assert_eq!(build(&[], 0), refused(2, 0));
     assert_eq!(build(&nested(0x12, 32, &p(0)), 0), refused(7, 0));
