@@ -114,7 +114,7 @@ fn every_form_is_written_as_it_was_read() {
         "{[*0]}[*15..15]",
         "p0[=3..5]",
         "!(p0|true)[=0..10]",
-        "{{p0[=9..10]}[*1..1]&p1[=0..0]}",
+        "{{p0[=9..10]}[*1..1];p1[=0..0]}",
     ] {
         let rule: Rule = text.parse().unwrap();
         assert_eq!(rule.to_string(), text);
