@@ -52,7 +52,7 @@ pub fn dense_and_never() -> Vec<u8> {
 }
 
 /// 31 times `true[*]` under 125 times `[+]`, then a letter that there is not: a table that takes long to build before a
-/// search that finds nothing. Of some hundred thousand searches tried, changed and kept where they took longer, the
+/// search that finds nothing. Of some sixty thousand searches tried, changed and kept where they took longer, the
 /// longest were of this kind.
 pub fn dense_again_and_never() -> Vec<u8> {
     let mut rule = vec![THEN];
