@@ -2,6 +2,7 @@
 // Where a read or a write fails there is no verdict, and standard error says so.
 ghost use lib.ListN.{take};
 ghost use Rattle.rulecheck.specs.Printed.{Lent, PrintedFor};
+use libc::STDOUT_FILENO;
 use lines::LINE_ROOM;
 use streams::Input;
 use writing::front;
@@ -29,6 +30,21 @@ fn printed(space: &[u8], long: usize, out: &mut [u8]) -> usize
     end + 1
 }
 
+// Writes all of `bytes` to standard output and closes it, which may be where the system tells of a failed write; whether both went well.
+fn write_output(bytes: &[u8]) -> bool {
+    if !io::write_all(STDOUT_FILENO, bytes) {
+        return false;
+    }
+    libc::close(STDOUT_FILENO) == 0
+}
+
+// Prints `bytes`, or says on standard error that it could not.
+fn print(bytes: &[u8]) {
+    if !write_output(bytes) {
+        os::fail(&OUTPUT_FAILED);
+    }
+}
+
 fn main() {
     let mut space = [0u8; INPUT_ROOM];
     let mut out = [0u8; OUTPUT_ROOM];
@@ -36,7 +52,7 @@ fn main() {
     match input {
         Input::Whole(long) => {
             let end = printed(&space, long, &mut out);
-            streams::print(&out[..end], &OUTPUT_FAILED);
+            print(&out[..end]);
         }
         Input::Failed => os::fail(&INPUT_FAILED),
     }

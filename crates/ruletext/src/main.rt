@@ -3,6 +3,7 @@
 ghost use Prim.Native.Nat.{_≤_};
 ghost use lib.ListN.{length, take};
 ghost use Rattle.ruletext.specs.Printed.{Lent, PrintedFor};
+use libc::STDOUT_FILENO;
 use streams::Input;
 use text_lines::LINE_ROOM;
 use writing::front;
@@ -23,6 +24,21 @@ fn printed(space: &[u8], long: usize, out: &mut [u8]) -> usize
     text_lines::line(front(space, long), out)
 }
 
+// Writes all of `bytes` to standard output and closes it, which may be where the system tells of a failed write; whether both went well.
+fn write_output(bytes: &[u8]) -> bool {
+    if !io::write_all(STDOUT_FILENO, bytes) {
+        return false;
+    }
+    libc::close(STDOUT_FILENO) == 0
+}
+
+// Prints `bytes`, or says on standard error that it could not.
+fn print(bytes: &[u8]) {
+    if !write_output(bytes) {
+        os::fail(&OUTPUT_FAILED);
+    }
+}
+
 fn main() {
     let mut space = [0u8; INPUT_ROOM];
     let mut out = [0u8; LINE_ROOM];
@@ -30,7 +46,7 @@ fn main() {
     match input {
         Input::Whole(long) => {
             let end = printed(&space, long, &mut out);
-            streams::print(front(&out, end), &OUTPUT_FAILED);
+            print(front(&out, end));
         }
         Input::Failed => os::fail(&INPUT_FAILED),
     }

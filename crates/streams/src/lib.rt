@@ -1,10 +1,9 @@
-// Standard input read to its end and standard output written whole: a call that failed is never taken for the end.
+// Standard input read to its end: a call that failed is never taken for the end.
 ghost use Prim.Native.Nat.{_-_, _≤_};
 ghost use lib.ListN.{length};
 ghost use Rattle.streams.specs.Streams.{Kept, Came};
 use libc::EINTR;
 use libc::STDIN_FILENO;
-use libc::STDOUT_FILENO;
 
 // What reading to the end came to: how many bytes are kept, or that a read failed, which errno then tells of.
 pub enum Input {
@@ -79,19 +78,4 @@ pub fn read_input(space: &mut [u8]) -> Input
         left -= 1;
     }
     Input::Failed
-}
-
-// Writes all of `bytes` to standard output and closes it, which may be where the system tells of a failed write; whether both went well.
-fn write_output(bytes: &[u8]) -> bool {
-    if !io::write_all(STDOUT_FILENO, bytes) {
-        return false;
-    }
-    libc::close(STDOUT_FILENO) == 0
-}
-
-// Prints `bytes`; where that fails, standard error has a line that says so, in the words of `failed` and the system's.
-pub fn print(bytes: &[u8], failed: &[u8]) {
-    if !write_output(bytes) {
-        os::fail(failed);
-    }
 }

@@ -29,9 +29,6 @@ array-share-prefix-out c = search needs
 slice-aggregate-print : tie.Need-slice-aggregate-print
 slice-aggregate-print c = simp length-take (omega arith)
 
-slice-aggregate-print-2 : tie.Need-slice-aggregate-print-2
-slice-aggregate-print-2 c = search needs
-
 print-requires : tie.Need-print-requires
 print-requires c κs = search needs
 
@@ -62,7 +59,6 @@ main-spec =
     printed-requires
     array-share-prefix-out
     slice-aggregate-print
-    slice-aggregate-print-2
     print-requires
     enum-told
     slice-aggregate-fail

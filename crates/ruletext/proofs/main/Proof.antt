@@ -27,9 +27,6 @@ slice-aggregate-front c = search needs
 front-requires : tie.Need-front-requires
 front-requires c κs = search needs
 
-slice-aggregate-print : tie.Need-slice-aggregate-print
-slice-aggregate-print c = search needs
-
 print-requires : tie.Need-print-requires
 print-requires c κs = search needs
 
@@ -60,7 +57,6 @@ main-spec =
     printed-requires
     slice-aggregate-front
     front-requires
-    slice-aggregate-print
     print-requires
     enum-told
     slice-aggregate-fail
