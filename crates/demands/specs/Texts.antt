@@ -12,7 +12,7 @@ use Rattle.rules.specs.Encoding.{spell, Small}
 use Rattle.rules.specs.Answer.{knownOf}
 use Rattle.rules.specs.Faults.{RuleFault}
 use Rattle.texts.specs.declared.TextAnswer.{TextAnswer}
-use Rattle.texts.specs.Text.{text}
+use Rattle.grammar.specs.Text.{text}
 use Rattle.texts.specs.Sharing.{IsText, Shares}
 use Rattle.texts.specs.Answer.{Result, given, refused, told, ReadRight, WriteRight}
 use Rattle.texts.specs.Strings.{broken-texts, AllShared}

@@ -20,25 +20,25 @@ use Rattle.lasting.specs.Answer as lasting
 use Rattle.lasting.proofs.Once as lasting-once
 use Rattle.search.specs.Answer as search
 use Rattle.search.proofs.Once as search-once
-use Rattle.exports.specs.declared.reading.GcRule.{GcRule}
-use Rattle.exports.specs.declared.reading.GcModel.{GcModel}
-use Rattle.exports.specs.declared.building.GcBuilt.{GcBuilt}
-use Rattle.exports.specs.declared.judging.GcJudged.{GcJudged}
-use Rattle.exports.specs.declared.stepping.GcWalker.{GcWalker}
-use Rattle.exports.specs.declared.stepping.GcStepped.{GcStepped}
-use Rattle.exports.specs.declared.following.GcMoved.{GcMoved}
-use Rattle.exports.specs.declared.lasting_states.GcLasts.{GcLasts}
-use Rattle.exports.specs.declared.searching.GcSearched.{GcSearched}
-use Rattle.exports.specs.Numbers.{ruleNumbers, modelNumbers, builtNumbers, judgedNumbers, steppedNumbers, movedNumbers, lastingNumbers, searchedNumbers, textNumbers, walkerOf, walkerNumbers, beside, trimmedNumbers}
+use Rattle.c_answers.specs.declared.reading.GcRule.{GcRule}
+use Rattle.c_answers.specs.declared.reading.GcModel.{GcModel}
+use Rattle.c_answers.specs.declared.building.GcBuilt.{GcBuilt}
+use Rattle.c_answers.specs.declared.judging.GcJudged.{GcJudged}
+use Rattle.c_answers.specs.declared.stepping.GcWalker.{GcWalker}
+use Rattle.c_answers.specs.declared.stepping.GcStepped.{GcStepped}
+use Rattle.c_answers.specs.declared.following.GcMoved.{GcMoved}
+use Rattle.c_answers.specs.declared.lasting_states.GcLasts.{GcLasts}
+use Rattle.c_answers.specs.declared.searching.GcSearched.{GcSearched}
+use Rattle.c_answers.specs.Numbers.{ruleNumbers, modelNumbers, builtNumbers, judgedNumbers, steppedNumbers, movedNumbers, lastingNumbers, searchedNumbers, textNumbers, walkerOf, walkerNumbers, beside, trimmedNumbers}
 use Rattle.exports.specs.Promise.{GcBuilds, GcJudges, GcLasting, GcSearches, ReadsText, WritesText, GcTrims, GcSearchesTrimmed}
 use Rattle.trims.specs.declared.TrimAnswer.{TrimAnswer}
 use Rattle.trims.specs.Answer as trims
 use Rattle.trims.proofs.Once as trims-once
 use Rattle.trimmed_search.proofs.Once.{one-trimmed-answer}
-use Rattle.exports.specs.declared.trimming.GcTrimmed.{GcTrimmed}
+use Rattle.c_answers.specs.declared.trimming.GcTrimmed.{GcTrimmed}
 use Rattle.texts.specs.Answer as texts
 use Rattle.texts.proofs.Once as texts-once
-use Rattle.exports.specs.declared.texting.GcText.{GcText}
+use Rattle.c_answers.specs.declared.texting.GcText.{GcText}
 
 pub one-rule : (s : List ℕ) (r r′ : GcRule) → r ≡ ruleNumbers (rules.answer s) → r′ ≡ ruleNumbers (rules.answer s) → r ≡ r′
 one-rule s r r′ e e′ = e ∙ sym e′

@@ -16,13 +16,13 @@ use Rattle.trims.specs.Answer as trims
 use Rattle.trimmed_search.specs.Answer.{TrimmedSearchRight}
 use Rattle.texts.specs.declared.TextAnswer.{TextAnswer}
 use Rattle.texts.specs.Answer as texts
-use Rattle.exports.specs.declared.building.GcBuilt.{GcBuilt}
-use Rattle.exports.specs.declared.judging.GcJudged.{GcJudged}
-use Rattle.exports.specs.declared.lasting_states.GcLasts.{GcLasts}
-use Rattle.exports.specs.declared.searching.GcSearched.{GcSearched}
-use Rattle.exports.specs.declared.trimming.GcTrimmed.{GcTrimmed}
-use Rattle.exports.specs.declared.texting.GcText.{GcText}
-use Rattle.exports.specs.Numbers.{builtNumbers, judgedNumbers, lastingNumbers, searchedNumbers, textNumbers, trimmedNumbers}
+use Rattle.c_answers.specs.declared.building.GcBuilt.{GcBuilt}
+use Rattle.c_answers.specs.declared.judging.GcJudged.{GcJudged}
+use Rattle.c_answers.specs.declared.lasting_states.GcLasts.{GcLasts}
+use Rattle.c_answers.specs.declared.searching.GcSearched.{GcSearched}
+use Rattle.c_answers.specs.declared.trimming.GcTrimmed.{GcTrimmed}
+use Rattle.c_answers.specs.declared.texting.GcText.{GcText}
+use Rattle.c_answers.specs.Numbers.{builtNumbers, judgedNumbers, lastingNumbers, searchedNumbers, textNumbers, trimmedNumbers}
 
 -- gc_build: the rule's bytes s, and the table slice before and after
 pub record GcBuilds (s t t′ : List ℕ) (r : GcBuilt) : Type 0 where

@@ -11,7 +11,7 @@ use crate::cuts::SIDE;
 use crate::cuts::cell;
 use rules::counts::Counts;
 use rules::counts::after_one;
-use rules::formulas::holds_at;
+use formulas::holds_at;
 use rules::kinds::Pair;
 
 // The parts that begin at i.

@@ -5,8 +5,6 @@ pub mod PlacesOnce
 pub mod Walks
 pub mod Naming
 pub mod Weighing
-pub mod Evaluating
-pub mod Labelling
 pub mod Finish
 pub mod Encode
 pub mod Stands

@@ -8,7 +8,6 @@ pub mod counts; // the two counts after a kind byte
 pub mod ends; // where a formula or a rule that begins at a place ends, or its first fault
 pub mod names; // which propositions a formula names
 pub mod weights; // how many states a rule's table has, and which propositions the rule names
-pub mod formulas; // whether a formula holds in a letter, and its label
 pub mod numbers; // the numbers of the refusals that several calls share
 
 use ends::Read;

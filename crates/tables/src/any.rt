@@ -13,7 +13,7 @@ ghost use Rattle.tables.specs.Table.{tableStates};
 ghost use Rattle.rules.specs.Definition2.{letterCount};
 use crate::cells::put;
 use crate::link::link;
-use rules::formulas::LETTER_COUNT;
+use formulas::LETTER_COUNT;
 
 // The two states at base and base + 1: every letter leads from either to the second.
 pub fn any(t: &mut [u64], base: usize)

@@ -24,7 +24,7 @@ use crate::shape::shape_at;
 use crate::tally::tally;
 use crate::within::within;
 use rules::counts::counts_at;
-use rules::formulas::label_and_end;
+use formulas::label_and_end;
 use rules::kinds::Kind;
 use rules::kinds::Pair;
 use rules::kinds::RuleKind;

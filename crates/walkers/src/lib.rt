@@ -4,7 +4,7 @@ ghost use Prim.Native.Nat.{_<_};
 ghost use Rattle.walkers.specs.Refusals.{number, place};
 ghost use Rattle.walkers.specs.Steps.{largestCount, walkerAt, startOf, refusedAs, ledTo, given, told, stepOf};
 ghost use Rattle.walkers.specs.Walks.{followOf, ending, Follows};
-use rules::formulas::LETTER_COUNT;
+use formulas::LETTER_COUNT;
 use rules::numbers::BAD_LETTER;
 use rules::numbers::FULL_COUNT;
 use rules::numbers::SHORT_SLICE;

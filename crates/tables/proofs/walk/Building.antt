@@ -11,9 +11,10 @@ use Rattle.rules.specs.declared.kinds.Kind.the-variants.{OfRule}
 use Rattle.rules.specs.Definition1.{Rule, two, counted, occurs}
 use Rattle.rules.specs.Kinds.{kindOf}
 use Rattle.rules.specs.Places.{RuleAt}
-use Rattle.rules.specs.declared.formulas.Labelled.{Labelled}
+use Rattle.formulas.specs.declared.Labelled.{Labelled}
 use Rattle.rules.specs.declared.counts.Counts.{Counts}
-use Rattle.rules.specs.Walks.{CountsAs, LabelledAs}
+use Rattle.rules.specs.Walks.{CountsAs}
+use Rattle.formulas.specs.Labels.{LabelledAs}
 use Rattle.rules.specs.Weight.{weightOf, pairWeight, weightLimit}
 use Rattle.rules.proofs.Scan.{rule-ends}
 use Rattle.rules.proofs.PlacesOnce.{rule-of, rule-once}

@@ -20,7 +20,7 @@ use borrow.Fn.PlainCycle.{Measures, is, falls, and}
 use Rattle.tables.proofs.fill.build_at.Reads as build-at
 use Rattle.tables.proofs.fill.build_at.Kinds as build-at-kinds
 use Rattle.tables.proofs.fill.+build_at.Lts-build_at as build-at-lts
-use Rattle.rules.proofs.formulas.label_and_end.Reads as label-and-end-reads
+use Rattle.formulas.proofs.label_and_end.Reads as label-and-end-reads
 use Rattle.rules.proofs.kinds.kind_of.Reads as kind-of-reads
 use Rattle.rules.proofs.counts.counts_at.Reads as counts-at-reads
 use Rattle.tables.proofs.cells.put.Reads as put-reads
