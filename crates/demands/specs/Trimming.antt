@@ -10,10 +10,10 @@ use Rattle.rules.specs.Definition1.{Rule}
 use Rattle.rules.specs.Definition2.{Sat}
 use Rattle.rules.specs.Weight.{weightOf}
 use Rattle.rules.specs.Answer.{knownOf}
-use Rattle.tables.specs.Table.{tableOf, Accepts}
+use Rattle.automata.specs.Table.{tableOf, Accepts}
 use Rattle.tables.specs.Beyond.{Beyond}
-use Rattle.tables.specs.IsTable.{Words}
-use Rattle.tables.specs.Promise.{Letters, Serves}
+use Rattle.automata.specs.IsTable.{Words}
+use Rattle.automata.specs.Promise.{Letters, Serves}
 use Rattle.trims.specs.declared.TrimAnswer.{TrimAnswer}
 use Rattle.trims.specs.Kept.{Kept}
 use Rattle.trims.specs.Answer as trims

@@ -6,7 +6,7 @@ use mathlib.Core.List.{List}
 use Rattle.rules.specs.Answer as rules
 use Rattle.models.specs.Answer as models
 use Rattle.tables.specs.declared.TableAnswer.{TableAnswer}
-use Rattle.tables.specs.IsTable.{Words}
+use Rattle.automata.specs.IsTable.{Words}
 use Rattle.tables.specs.Answer as tables
 use Rattle.tables.proofs.promise.Once as tables-once
 use Rattle.judge.specs.declared.JudgeAnswer.{JudgeAnswer}

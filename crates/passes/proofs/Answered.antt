@@ -9,8 +9,8 @@ use lib.Dec.{T}
 use lib.ListN.{length, getD}
 use Rattle.rules.specs.Definition1.{Rule}
 use Rattle.rules.specs.Definition2.{letterCount}
-use Rattle.tables.specs.Table.{Table, Accepts, tableStates}
-use Rattle.tables.specs.Promise.{Letters, Serves}
+use Rattle.automata.specs.Table.{Table, Accepts, tableStates}
+use Rattle.automata.specs.Promise.{Letters, Serves}
 use Rattle.models.specs.Model.{Model, Walk, NonEmpty, Run, last, spelled, modelStates}
 use Rattle.passes.specs.Right.{Matches, Before, Count, Reached, Pairs, found, nothing, Right, Bounded}
 use Rattle.passes.specs.Lent.{pairCount}

@@ -7,7 +7,7 @@ use mathlib.Core.List.{List, [], _∷_, _++_}
 use native.Mathlib.Omega.{arith}
 use lib.Dec.{T}
 use lib.ListN.{length, length-append}
-use Rattle.tables.specs.Table.{Table, Goes}
+use Rattle.automata.specs.Table.{Table, Goes}
 use Rattle.models.specs.Model.{Model, Walk, NonEmpty, last, spelled}
 use Rattle.passes.specs.inner.Passes.{Way, Left, Useful}
 use Rattle.passes.proofs.Way.{way-of-run, goes-append, last-append}

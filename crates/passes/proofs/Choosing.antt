@@ -9,8 +9,8 @@ use Rattle.bits.specs.Word.{bit}
 use Rattle.bits.specs.Sets.{Members, Over, In}
 use Rattle.bits.proofs.Members.{members-same}
 use Rattle.bits.proofs.Resting.{in-word}
-use Rattle.tables.specs.Table.{tableOf, tableStates}
-use Rattle.tables.proofs.promise.TableOf.{edge-out}
+use Rattle.automata.specs.Table.{tableOf, tableStates}
+use Rattle.automata.proofs.TableOf.{edge-out}
 use Rattle.steps.specs.Rows.{Rowed}
 use Rattle.passes.specs.Lent.{LentTable, LentLetters}
 use Rattle.passes.specs.inner.Passes.{Used, Under, view, Onward, CanNext}

@@ -6,10 +6,10 @@ use mathlib.Core.List.{List}
 use native.Mathlib.Omega.{arith}
 use native.Mathlib.Decide.{decLt}
 use lib.ListN.{length, getD, take}
-use Rattle.tables.specs.Table.{Table}
+use Rattle.automata.specs.Table.{Table}
 use Rattle.tables.specs.Beyond.{Beyond}
 use Rattle.tables.proofs.promise.Beyonds.{beyond-then, beyond-more}
-use Rattle.tables.proofs.promise.TableOf.{final-out}
+use Rattle.automata.proofs.TableOf.{final-out}
 use Rattle.models.specs.Model.{Model, Run}
 use Rattle.passes.specs.declared.inner.Searched.{Searched}
 use Rattle.passes.specs.declared.inner.Searched.the-variants.{Found, Nothing}

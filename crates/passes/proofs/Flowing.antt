@@ -12,10 +12,10 @@ use Rattle.bits.specs.Word.{bit}
 use Rattle.bits.specs.Says.{Says}
 use Rattle.bits.specs.Sets.{Below, Over, In}
 use Rattle.bits.proofs.Sayings.{says-map}
-use Rattle.tables.specs.Table.{Table, tableStates}
+use Rattle.automata.specs.Table.{Table, tableStates}
 use Rattle.tables.specs.Beyond.{Beyond}
 use Rattle.tables.proofs.promise.Beyonds.{beyond-none, beyond-then}
-use Rattle.tables.proofs.promise.TableOf.{final-out, final-in}
+use Rattle.automata.proofs.TableOf.{final-out, final-in}
 use Rattle.models.specs.Model.{Model, modelStates}
 use Rattle.passes.specs.Lent.{pairCount}
 use Rattle.passes.specs.inner.Passes.{Step, Along, FromAll, view, FinalOn, Ended, Unmarked}

@@ -10,7 +10,7 @@ use native.Mathlib.Nat.{mul-le-mul-right}
 use lib.Dec.{T}
 use lib.ListN.{getD}
 use Rattle.bits.specs.Sets.{Below}
-use Rattle.tables.specs.Table.{Table, tableStates}
+use Rattle.automata.specs.Table.{Table, tableStates}
 use Rattle.models.specs.Model.{Model, modelStates}
 use Rattle.passes.specs.Right.{Count, none, counted, passed}
 use Rattle.passes.specs.Lent.{pairCount}

@@ -17,8 +17,8 @@ use Rattle.bits.proofs.Laws.{bit-zero, bit-insert}
 use Rattle.bits.proofs.Sayings.{says-in, says-map}
 use Rattle.bits.proofs.Truths.{or-T, T-true, false-no}
 use Rattle.bits.proofs.Members.{add-old, add-new}
-use Rattle.tables.specs.Table.{Table, tableStates}
-use Rattle.tables.proofs.promise.TableOf.{final-out, final-in}
+use Rattle.automata.specs.Table.{Table, tableStates}
+use Rattle.automata.proofs.TableOf.{final-out, final-in}
 use Rattle.steps.specs.Rows.{Rowed}
 use Rattle.steps.proofs.Rowing.{same-place}
 use Rattle.models.specs.Model.{Model, modelStates}

@@ -5,7 +5,7 @@ use mathlib.Core.Logic.{_≢_}
 use native.Mathlib.Omega.{arith}
 use native.Mathlib.Decide.{ℕ-discrete}
 use lib.Dec.{T}
-use Rattle.tables.specs.Table.{Table, tableStates}
+use Rattle.automata.specs.Table.{Table, tableStates}
 use Rattle.models.specs.Model.{Model, modelStates}
 use Rattle.passes.specs.inner.Passes.{Way, start, onto, Level}
 

@@ -8,7 +8,7 @@ use native.Mathlib.Omega.{arith}
 use native.Mathlib.Decide.{ℕ-discrete}
 use lib.Dec.{T}
 use lib.ListN.{length, length-append}
-use Rattle.tables.specs.Table.{Table, Goes, Accepts}
+use Rattle.automata.specs.Table.{Table, Goes, Accepts}
 use Rattle.models.specs.Model.{Model, Walk, spelled}
 use Rattle.passes.specs.Right.{Before, here, there}
 use Rattle.passes.specs.inner.Passes.{Left, Picked}

@@ -12,8 +12,8 @@ use lib.Seq.{take-suc-set, length-take-le}
 use Rattle.bits.specs.Word.{bit, Lowest}
 use Rattle.bits.specs.Sets.{Members}
 use Rattle.bits.proofs.Members.{members-first, not-zero, lowest-is, lowest-least}
-use Rattle.tables.specs.Table.{Table}
-use Rattle.tables.proofs.promise.TableOf.{edge-out}
+use Rattle.automata.specs.Table.{Table}
+use Rattle.automata.proofs.TableOf.{edge-out}
 use Rattle.models.specs.Model.{Model}
 use Rattle.passes.specs.inner.Passes.{Under, view, Left, Pickable, Onward, CanNext, Picked}
 use Rattle.passes.proofs.SearchInput.{SearchInput, modelFor, tableFor, labelsFor, fair}

@@ -10,8 +10,8 @@ use Rattle.bits.specs.Word.{bit, all}
 use Rattle.bits.specs.Sets.{Members, Below, Over, In}
 use Rattle.bits.proofs.Laws.{bit-all}
 use Rattle.bits.proofs.Members.{members-first, members-and, members-bits, members-same}
-use Rattle.tables.specs.Table.{tableOf}
-use Rattle.tables.proofs.promise.TableOf.{edge-out}
+use Rattle.automata.specs.Table.{tableOf}
+use Rattle.automata.proofs.TableOf.{edge-out}
 use Rattle.steps.specs.Rows.{Rowed}
 use Rattle.passes.specs.Right.{Count, none, passed}
 use Rattle.passes.specs.Lent.{LentTable, LentLetters, pairCount}

@@ -8,8 +8,8 @@ use lib.Dec.{T}
 use lib.ListN.{getD}
 use Rattle.bits.specs.Word.{bit}
 use Rattle.bits.specs.Sets.{Below}
-use Rattle.tables.specs.Table.{Table, tableStates}
-use Rattle.tables.proofs.promise.TableOf.{edge-out}
+use Rattle.automata.specs.Table.{Table, tableStates}
+use Rattle.automata.proofs.TableOf.{edge-out}
 use Rattle.steps.proofs.Rowing.{same-place}
 use Rattle.models.specs.Model.{Model, modelStates}
 use Rattle.passes.specs.Lent.{pairCount}

@@ -1,8 +1,8 @@
 -- What a search is given, as one thing. Assumes nothing.
 use Prim.Native.Nat.{ℕ}
 use mathlib.Core.List.{List}
-use Rattle.tables.specs.Table.{Table}
-use Rattle.tables.proofs.promise.TableOf.{edge-out}
+use Rattle.automata.specs.Table.{Table}
+use Rattle.automata.proofs.TableOf.{edge-out}
 use Rattle.models.specs.Model.{Model}
 use Rattle.passes.specs.declared.shape.Sizes.{Sizes}
 use Rattle.passes.specs.Lent.{modelIn, tableIn, LentTable, LentLetters}

@@ -9,7 +9,7 @@ use lib.ListN.{length, getD, set, length-set}
 use lib.Seq.{getD-set-same, getD-set-other}
 use Rattle.bits.specs.Sets.{Below}
 use Rattle.tables.specs.Beyond.{Beyond}
-use Rattle.tables.specs.Table.{tableStates}
+use Rattle.automata.specs.Table.{tableStates}
 use Rattle.passes.specs.Right.{Count, none, counted, passed}
 use Rattle.passes.specs.Lent.{pairCount}
 use Rattle.passes.specs.inner.Passes.{Nz, Step, At}

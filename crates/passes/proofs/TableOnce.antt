@@ -7,8 +7,8 @@ use native.Mathlib.Omega.{arith}
 use lib.ListN.{length, getD, take}
 use lib.Seq.{getD-take, length-take-le}
 use Rattle.rules.specs.Definition1.{Rule}
-use Rattle.tables.specs.Table.{Table}
-use Rattle.tables.specs.Promise.{Serves}
+use Rattle.automata.specs.Table.{Table}
+use Rattle.automata.specs.Promise.{Serves}
 use Rattle.models.specs.Model.{Model}
 use Rattle.tables.specs.Beyond.{Beyond}
 use Rattle.tables.proofs.promise.Beyonds.{beyond-once}

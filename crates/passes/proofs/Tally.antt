@@ -4,7 +4,7 @@ use mathlib.Core.Path.{_≡_, refl, ap, subst, _∙_}
 use native.Mathlib.Omega.{arith}
 use native.Mathlib.Decide.{decLt}
 use native.Mathlib.Nat.{suc-mul}
-use Rattle.tables.specs.Table.{tableStates}
+use Rattle.automata.specs.Table.{tableStates}
 use Rattle.models.specs.Model.{modelStates}
 use Rattle.passes.specs.Right.{Count, none, counted, passed}
 use Rattle.passes.specs.Lent.{pairCount}

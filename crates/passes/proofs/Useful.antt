@@ -8,7 +8,7 @@ use native.Mathlib.Omega.{arith}
 use native.Mathlib.Decide.{decLe}
 use lib.Dec.{T}
 use lib.ListN.{length}
-use Rattle.tables.specs.Table.{Table, Goes}
+use Rattle.automata.specs.Table.{Table, Goes}
 use Rattle.models.specs.Model.{Model, Walk, spelled}
 use Rattle.passes.specs.inner.Passes.{Way, onto, Level, view, Marked, Left}
 use Rattle.passes.proofs.Level.{Fair, ends}

@@ -17,7 +17,7 @@ use Rattle.bits.proofs.Truths.{false-no}
 use Rattle.bits.proofs.Sayings.{says-in}
 use Rattle.bits.proofs.Members.{members-same, add-out, add-old, add-new}
 use Rattle.bits.proofs.Resting.{Done, Rest, in-word, done-older, done-newest, done-not}
-use Rattle.tables.specs.Table.{tableStates}
+use Rattle.automata.specs.Table.{tableStates}
 use Rattle.models.specs.Model.{modelStates}
 use Rattle.passes.specs.inner.Passes.{Nz, view, pairAt}
 use Rattle.passes.specs.inner.Waves.{Queued, Pushed, Sent, Lands, Fronts, Incoming}

@@ -5,7 +5,7 @@ use mathlib.Core.List.{List, [], _∷_, _++_}
 use native.Mathlib.Omega.{arith}
 use lib.Dec.{T}
 use lib.ListN.{length, length-append}
-use Rattle.tables.specs.Table.{Table, Goes}
+use Rattle.automata.specs.Table.{Table, Goes}
 use Rattle.models.specs.Model.{Model, Walk, Run, lastFrom, last, spelled}
 use Rattle.passes.specs.Right.{Reached}
 use Rattle.passes.specs.inner.Passes.{Way, start, onto}

@@ -5,7 +5,7 @@ use mathlib.Core.List.{List}
 use lib.Dec.{T}
 use lib.ListN.{length, getD}
 use Rattle.rules.specs.Definition2.{letterCount}
-use Rattle.tables.specs.Table.{Table, tableStates, tableEntries, tableOf}
+use Rattle.automata.specs.Table.{Table, tableStates, tableEntries, tableOf}
 use Rattle.tables.specs.Beyond.{Beyond}
 use Rattle.models.specs.Model.{Model, modelStates}
 use Rattle.models.specs.Stored.{modelWith}

@@ -4,8 +4,8 @@ use mathlib.Core.Path.{_≡_}
 use mathlib.Core.List.{List}
 use lib.ListN.{length, take}
 use Rattle.rules.specs.Definition1.{Rule}
-use Rattle.tables.specs.Table.{Table}
-use Rattle.tables.specs.Promise.{Serves}
+use Rattle.automata.specs.Table.{Table}
+use Rattle.automata.specs.Promise.{Serves}
 use Rattle.models.specs.Model.{Model}
 use Rattle.tables.specs.Beyond.{Beyond}
 use Rattle.passes.specs.declared.inner.Searched.{Searched}

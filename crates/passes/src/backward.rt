@@ -8,7 +8,7 @@ ghost use lib.ListN.{length};
 ghost use Rattle.bits.specs.Word.{bit};
 ghost use Rattle.bits.specs.Says.{Says};
 ghost use Rattle.bits.specs.Sets.{Over, In};
-ghost use Rattle.tables.specs.Table.{tableStates, tableEntries};
+ghost use Rattle.automata.specs.Table.{tableStates, tableEntries};
 ghost use Rattle.models.specs.Model.{modelStates};
 ghost use Rattle.passes.specs.Lent.{modelIn, tableIn, LentLetters, pairCount};
 ghost use Rattle.passes.specs.inner.Passes.{view, Marked, Useful, PassInput, Workspace, usefulSets, NoSets, HasLetter};
@@ -18,7 +18,7 @@ use crate::shape::ForwardEnd;
 use crate::shape::MODEL_STATES;
 use crate::shape::Pair;
 use crate::shape::Sizes;
-use tables::STATES;
+use automata::STATES;
 
 // Whether letter and rows lead from q to a member of the set of t.
 fn meets(letters: &[u8], rows: &[u64], useful: &[u64], base: usize, q: usize, t: usize) -> bool

@@ -6,7 +6,7 @@ ghost use lib.ListN.{length, take};
 ghost use Rattle.bits.specs.Word.{bit};
 ghost use Rattle.bits.specs.Sets.{Members};
 ghost use Rattle.tables.specs.Beyond.{Beyond};
-ghost use Rattle.tables.specs.Table.{tableEntries};
+ghost use Rattle.automata.specs.Table.{tableEntries};
 ghost use Rattle.passes.specs.Lent.{modelIn, tableIn, pairCount};
 ghost use Rattle.passes.specs.inner.Passes.{Pickable, Picked, PassInput, usefulSets, HasLetter};
 ghost use Rattle.passes.specs.inner.Uses.{Holds, flat};
@@ -15,7 +15,7 @@ use crate::shape::BEGIN;
 use crate::shape::MODEL_STATES;
 use crate::shape::Sizes;
 use steps::rows::union;
-use tables::STATES;
+use automata::STATES;
 
 // The table states that are held after state t on the level: those that `held` leads to and that lie on a shortest match.
 fn onward(

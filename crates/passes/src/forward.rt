@@ -7,7 +7,7 @@ ghost use Rattle.bits.specs.Word.{bit};
 ghost use Rattle.bits.specs.Says.{Says};
 ghost use Rattle.bits.specs.Sets.{Below, Over, In};
 ghost use Rattle.tables.specs.Beyond.{Beyond};
-ghost use Rattle.tables.specs.Table.{tableStates};
+ghost use Rattle.automata.specs.Table.{tableStates};
 ghost use Rattle.models.specs.Model.{modelStates};
 ghost use Rattle.passes.specs.Lent.{modelIn, tableIn, pairCount};
 ghost use Rattle.passes.specs.inner.Passes.{Along, FromAll, Ended, labelsIn, PassInput, Workspace, Unmarked};

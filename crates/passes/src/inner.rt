@@ -2,7 +2,7 @@
 ghost use Prim.Native.Nat.{_*_, _≤_};
 ghost use lib.ListN.{length};
 ghost use Rattle.tables.specs.Beyond.{Beyond};
-ghost use Rattle.tables.specs.Table.{tableStates};
+ghost use Rattle.automata.specs.Table.{tableStates};
 ghost use Rattle.models.specs.Model.{Run};
 ghost use Rattle.passes.specs.Lent.{modelIn, tableIn, LentTable, LentLetters, pairCount};
 ghost use Rattle.passes.specs.Told.{Answers, SearchedTable};
@@ -15,8 +15,8 @@ use crate::rows::model_rows;
 use crate::shape::PAIRS;
 use crate::shape::Sizes;
 use crate::shape::USEFUL_SETS;
-use tables::STATES;
-use tables::TABLE_ENTRIES;
+use automata::STATES;
+use automata::TABLE_ENTRIES;
 
 // What a search answers.
 pub enum Searched {

@@ -9,7 +9,7 @@ ghost use Rattle.models.specs.Model.{modelStates};
 ghost use Rattle.passes.specs.Lent.{Cleared, pairCount};
 ghost use Rattle.passes.specs.inner.Passes.{view, Workspace, pairAt};
 ghost use Rattle.passes.specs.inner.Waves.{Queued, Pushed};
-use tables::STATES;
+use automata::STATES;
 
 // Sets the first n marks to 0.
 pub fn clear(marks: &mut [u16], n: usize)

@@ -3,7 +3,7 @@ ghost use mathlib.Core.Path.{_≡_};
 ghost use Prim.Native.Nat.{ℕ, _≤_};
 ghost use lib.ListN.{length, getD};
 ghost use Rattle.bits.specs.Sets.{Members};
-ghost use Rattle.tables.specs.Table.{tableEntries};
+ghost use Rattle.automata.specs.Table.{tableEntries};
 ghost use Rattle.steps.specs.Rows.{Rowed};
 ghost use Rattle.passes.specs.Lent.{LentTable, LentLetters};
 ghost use Rattle.passes.specs.inner.Passes.{Used, labelsIn};

@@ -5,7 +5,7 @@ ghost use lib.Dec.{T};
 ghost use lib.ListN.{length};
 ghost use Rattle.bits.specs.Word.{bit};
 ghost use Rattle.bits.specs.Sets.{Members, Over, In};
-ghost use Rattle.tables.specs.Table.{tableEntries};
+ghost use Rattle.automata.specs.Table.{tableEntries};
 ghost use Rattle.models.specs.Model.{modelStates};
 ghost use Rattle.passes.specs.Lent.{pairCount, LentLetters};
 ghost use Rattle.passes.specs.inner.Passes.{Workspace, HasLetter};
@@ -14,7 +14,7 @@ use crate::marks::filter;
 use crate::marks::push_all;
 use crate::shape::Wave;
 use steps::rows::union;
-use tables::STATES;
+use automata::STATES;
 
 // What state s hands to t.
 fn sent(successors: &[u64], front: &[u64], s: usize, t: usize) -> u64

@@ -4,7 +4,7 @@ use mathlib.Core.Path.{_≡_, refl, sym, subst}
 use mathlib.Core.List.{List}
 use Rattle.rules.specs.Definition1.{Rule}
 use Rattle.rules.specs.Definition2.{Sat}
-use Rattle.tables.specs.Table.{Table, Goes}
+use Rattle.automata.specs.Table.{Table, Goes}
 use Rattle.models.specs.Model.{Model, Run, spelled}
 use Rattle.models.specs.declared.ModelData.{ModelData}
 use Rattle.models.specs.Stored.{modelOf}

@@ -3,7 +3,7 @@ ghost use mathlib.Core.Path.{_≡_};
 ghost use Prim.Native.Nat.{_≤_};
 ghost use lib.ListN.{length};
 ghost use Rattle.bits.specs.Says.{Says};
-ghost use Rattle.tables.specs.Table.{tableOf};
+ghost use Rattle.automata.specs.Table.{tableOf};
 ghost use Rattle.models.specs.Stored.{modelOf, Held};
 ghost use Rattle.models.specs.Answer as models;
 ghost use Rattle.lasting.specs.Endless.{LastingRun};
@@ -22,7 +22,7 @@ use passes::shape::PAIRS;
 use passes::shape::Sizes;
 use rules::Known;
 use rules::RuleAnswer;
-use tables::TABLE_ENTRIES;
+use automata::TABLE_ENTRIES;
 
 // What reading comes to.
 pub enum InputAnswer {

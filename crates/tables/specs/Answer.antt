@@ -10,9 +10,9 @@ use Rattle.rules.specs.Answer.{answer, AcceptedAs, knownOf}
 use Rattle.tables.specs.declared.TableAnswer.{TableAnswer}
 use Rattle.tables.specs.declared.TableAnswer.the-variants.{Tabled, Refused}
 use Rattle.tables.specs.Refusals.{number, place}
-use Rattle.tables.specs.Table.{tableEntries}
+use Rattle.automata.specs.Table.{tableEntries}
 use Rattle.tables.specs.Beyond.{Beyond}
-use Rattle.tables.specs.IsTable.{IsTable}
+use Rattle.automata.specs.IsTable.{IsTable}
 
 -- what is known of the rule and its set of finals, with the table in the slice; or refused, with number and place
 pub data Result : Type 0 where

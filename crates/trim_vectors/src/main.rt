@@ -2,8 +2,8 @@
 use libc::STDOUT_FILENO;
 use passes::inner::Searched;
 use search::SearchAnswer;
-use tables::STATES;
-use tables::TABLE_ENTRIES;
+use automata::STATES;
+use automata::TABLE_ENTRIES;
 use tables::TableAnswer;
 use trims::TrimAnswer;
 

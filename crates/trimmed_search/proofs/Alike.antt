@@ -5,7 +5,7 @@ use mathlib.Core.List.{List}
 use Rattle.rules.specs.Definition1.{Rule}
 use Rattle.rules.specs.Answer.{knownOf}
 use Rattle.rules.proofs.Accepting.{accepted-once}
-use Rattle.tables.specs.Table.{Table, tableOf}
+use Rattle.automata.specs.Table.{Table, tableOf}
 use Rattle.models.specs.Model.{Model}
 use Rattle.models.specs.Stored.{modelOf}
 use Rattle.models.specs.Answer as models

@@ -6,7 +6,7 @@ use Rattle.rules.specs.Definition1.{Rule}
 use Rattle.rules.specs.Weight.{weightOf}
 use Rattle.rules.specs.Answer.{knownOf}
 use Rattle.tables.specs.declared.TableAnswer.the-variants.{Tabled}
-use Rattle.tables.specs.Table.{tableOf}
+use Rattle.automata.specs.Table.{tableOf}
 use Rattle.tables.proofs.promise.Once as tables-once
 use Rattle.trims.specs.Answer.{TrimRight, trimmed}
 use Rattle.trims.proofs.Once as trims-once

@@ -8,9 +8,9 @@ use Rattle.rules.specs.declared.Known.{Known}
 use Rattle.rules.specs.Definition1.{Rule}
 use Rattle.rules.specs.Weight.{weightOf}
 use Rattle.rules.specs.Answer.{knownOf}
-use Rattle.tables.specs.Table.{tableEntries, tableOf}
-use Rattle.tables.specs.IsTable.{Words}
-use Rattle.tables.specs.Promise.{Serves}
+use Rattle.automata.specs.Table.{tableEntries, tableOf}
+use Rattle.automata.specs.IsTable.{Words}
+use Rattle.automata.specs.Promise.{Serves}
 use Rattle.tables.specs.Answer.{TableFor}
 use Rattle.trims.specs.Stands.{Stands}
 use Rattle.trims.specs.Trimmed.{Trimmed}

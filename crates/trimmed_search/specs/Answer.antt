@@ -4,8 +4,8 @@ use mathlib.Core.List.{List}
 use Rattle.rules.specs.Definition1.{Rule}
 use Rattle.rules.specs.Weight.{weightOf}
 use Rattle.rules.specs.Answer.{AcceptedAs, knownOf}
-use Rattle.tables.specs.Table.{tableOf}
-use Rattle.tables.specs.IsTable.{Words}
+use Rattle.automata.specs.Table.{tableOf}
+use Rattle.automata.specs.IsTable.{Words}
 use Rattle.tables.specs.Answer.{BuildRight, tabled}
 use Rattle.trims.specs.Answer.{TrimRight, trimmed}
 use Rattle.models.specs.Model.{Model}

@@ -16,7 +16,7 @@ use Rattle.rules.specs.Numbers.{shortSlice, badLetter, fullCount}
 use Rattle.walkers.specs.declared.Walker.{Walker}
 use Rattle.walkers.specs.declared.StepAnswer.the-variants.{Moved}
 use Rattle.walkers.specs.declared.Step.{Step}
-use Rattle.tables.specs.Table.{tableEntries}
+use Rattle.automata.specs.Table.{tableEntries}
 use Rattle.steps.specs.Moves.{advanced, meets}
 use Rattle.steps.proofs.Gathering.{advanced-lt, meets-test}
 use Rattle.walkers.specs.Steps.{largestCount, walkerAt, flag, refusal, told, given, ledTo, refusedAs, stepOf}

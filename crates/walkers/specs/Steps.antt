@@ -7,7 +7,7 @@ use lib.ListN.{length}
 use Rattle.bits.specs.Word.{bit}
 use Rattle.rules.specs.Definition2.{letterCount}
 use Rattle.rules.specs.Numbers.{shortSlice, badLetter, fullCount}
-use Rattle.tables.specs.Table.{tableEntries}
+use Rattle.automata.specs.Table.{tableEntries}
 use Rattle.steps.specs.Moves.{advanced, meets}
 use Rattle.walkers.specs.declared.Walker.{Walker}
 use Rattle.walkers.specs.declared.StepAnswer.{StepAnswer}

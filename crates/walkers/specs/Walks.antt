@@ -12,8 +12,8 @@ use Rattle.rules.specs.Numbers.{shortSlice, badLetter}
 use Rattle.walkers.specs.declared.Walker.{Walker}
 use Rattle.walkers.specs.declared.FollowAnswer.{FollowAnswer}
 use Rattle.walkers.specs.declared.FollowAnswer.the-variants.{Ended, Refused}
-use Rattle.tables.specs.Table.{tableStates, tableEntries, tableOf}
-use Rattle.tables.specs.Promise.{Letters, Serves}
+use Rattle.automata.specs.Table.{tableStates, tableEntries, tableOf}
+use Rattle.automata.specs.Promise.{Letters, Serves}
 use Rattle.steps.specs.Moves.{advanced, meets}
 use Rattle.walkers.specs.Refusals.{number, place}
 use Rattle.walkers.specs.Steps.{startOf, Outcome, flag, refusal, stepOf}

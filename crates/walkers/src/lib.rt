@@ -9,7 +9,7 @@ use rules::numbers::BAD_LETTER;
 use rules::numbers::FULL_COUNT;
 use rules::numbers::SHORT_SLICE;
 use steps::advance;
-use tables::TABLE_ENTRIES;
+use automata::TABLE_ENTRIES;
 
 // A letter is below this.
 const LETTERS: u8 = LETTER_COUNT as u8;

@@ -6,7 +6,7 @@ use lib.Dec.{T}
 use lib.ListN.{length, getD}
 use Rattle.bits.specs.Word.{bit}
 use Rattle.bits.specs.Sets.{Over, In}
-use Rattle.tables.specs.Table.{tableStates}
+use Rattle.automata.specs.Table.{tableStates}
 use Rattle.tables.specs.Beyond.{Beyond}
 use Rattle.steps.specs.Rows.{Into, rowsTable}
 use Rattle.models.specs.Model.{modelStates}

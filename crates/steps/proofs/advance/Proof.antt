@@ -8,7 +8,7 @@ use native.Mathlib.Omega.{arith}
 use Rattle.bits.specs.Word.{bit, many}
 use Rattle.bits.specs.Sets.{Members, Over}
 use Rattle.bits.proofs.Resting.{Done, Rest, rest-all, turn-rest, turn-less, uniting-none, uniting-turn, uniting-end}
-use Rattle.tables.specs.Table.{tableStates, cell}
+use Rattle.automata.specs.Table.{tableStates, cell}
 use Rattle.steps.proofs.Gathering.{row-members, gathered}
 use Rattle.steps.proofs.advance.Statement.{statement}
 use Rattle.steps.proofs.advance.Tie as tie

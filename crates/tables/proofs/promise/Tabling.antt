@@ -15,14 +15,14 @@ use Rattle.rules.specs.Answer as rules
 use Rattle.rules.specs.Answer.{answer, AcceptedAs, knownOf}
 use Rattle.rules.specs.Weight.{weightOf}
 use Rattle.rules.proofs.Accepting.{accepted-rule, accepted-stands}
-use Rattle.tables.specs.declared.shape.Shape.{Shape}
-use Rattle.tables.specs.inner.Cells.{Put}
-use Rattle.tables.specs.inner.Block.{Built}
-use Rattle.tables.specs.inner.Shapes.{Fits, ShapedAs}
-use Rattle.tables.specs.inner.Building.{Ready, BuiltAt}
+use Rattle.automata.specs.declared.shape.Shape.{Shape}
+use Rattle.automata.specs.inner.Cells.{Put}
+use Rattle.automata.specs.inner.Block.{Built}
+use Rattle.automata.specs.inner.Shapes.{Fits, ShapedAs}
+use Rattle.blocks.specs.inner.Building.{Ready, BuiltAt}
 use Rattle.tables.specs.Answer.{BuildRight, refused, tabled, rule-refused, short-table, the-table, TableFor}
-use Rattle.tables.proofs.blocks.Wholes.{is-table}
-use Rattle.tables.specs.Table.{tableStates, tableEntries}
+use Rattle.tables.proofs.promise.Wholes.{is-table}
+use Rattle.automata.specs.Table.{tableStates, tableEntries}
 
 -- a cleared table is ready
 pub ready-whole : (t t₁ : List ℕ) → tableEntries ≤ length t → length t₁ ≡ length t → Put t t₁ 0 tableStates 0 tableStates (λ p q. 0) → Ready t₁ 0

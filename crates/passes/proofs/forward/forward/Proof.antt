@@ -4,7 +4,7 @@ use mathlib.Core.Path.{_≡_, refl, sym, _∙_}
 use Prim.Native.Nat.{_+_, _-_, min}
 use native.Mathlib.Omega.{arith}
 use lib.ListN.{length}
-use Rattle.tables.specs.Table.{tableOf}
+use Rattle.automata.specs.Table.{tableOf}
 use Rattle.tables.proofs.promise.Beyonds.{beyond-then}
 use Rattle.models.specs.Stored.{modelWith}
 use Rattle.models.specs.Model.{modelStates}
