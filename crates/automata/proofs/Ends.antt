@@ -9,9 +9,9 @@ use lib.Bits.{bitOr}
 use lib.Dec.{T, eqb, eqb→eq, eqb-refl}
 use Rattle.bits.specs.Word.{bit, insert}
 use Rattle.bits.proofs.Laws.{lt-or-ge, bit-insert}
-use Rattle.rules.specs.declared.kinds.Pair.the-variants.{Then, Overlap, Either, Within, Both}
-use Rattle.rules.specs.declared.kinds.Repeat.the-variants.{Star, Plus}
-use Rattle.rules.specs.Definition1.{Rule, Formula, letter, empty, two, again}
+use Rattle.definitions.specs.declared.kinds.Pair.the-variants.{Then, Overlap, Either, Within, Both}
+use Rattle.definitions.specs.declared.kinds.Repeat.the-variants.{Star, Plus}
+use Rattle.definitions.specs.Definition1.{Rule, Formula, letter, empty, two, again}
 use Rattle.rules.specs.Weight.{weightOf}
 use Rattle.automata.specs.Build.{auto, UpF, ThenFinal, EitherFinal, BothFinal}
 use Rattle.automata.specs.inner.Block.{FinalsAt, withinRule}

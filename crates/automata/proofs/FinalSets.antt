@@ -8,8 +8,8 @@ use mathlib.Core.Bool.{true, false, _&&_}
 use lib.Dec.{T}
 use Rattle.bits.specs.Word.{bit, word, insert}
 use Rattle.bits.proofs.Laws.{bit-shl, bit-shl-low, bit-mod, bit-word, bit-above, word-lt, word-step, word-skip, lt-or-ge}
-use Rattle.rules.specs.declared.kinds.Pair.the-variants.{Both}
-use Rattle.rules.specs.Definition1.{Rule, Formula, yea, letter, empty, two}
+use Rattle.definitions.specs.declared.kinds.Pair.the-variants.{Both}
+use Rattle.definitions.specs.Definition1.{Rule, Formula, yea, letter, empty, two}
 use Rattle.rules.specs.Weight.{weightOf}
 use Rattle.automata.specs.Build.{auto, UpF}
 use Rattle.automata.specs.inner.Block.{FinalsAt, anyRule}

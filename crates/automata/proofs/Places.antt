@@ -7,14 +7,14 @@ use mathlib.Core.List.{List}
 use lib.Dec.{T}
 use Rattle.bits.specs.Word.{bit}
 use Rattle.bits.proofs.Laws.{lt-or-ge}
-use Rattle.rules.specs.Definition1.{Rule}
+use Rattle.definitions.specs.Definition1.{Rule}
 use Rattle.rules.specs.Weight.{weightOf}
 use Rattle.automata.specs.Table.{tableStates, cell}
 use Rattle.automata.specs.Build.{auto, UpF}
 use Rattle.automata.specs.inner.Cells.{In, Clean}
 use Rattle.automata.specs.inner.Block.{Block, FinalsAt, Built, Beside}
 use Rattle.automata.proofs.Labels.{Has, has-none}
-use Rattle.rules.specs.Definition2.{letterCount}
+use Rattle.definitions.specs.Definition2.{letterCount}
 
 -- a state of two operands is one of the first's, or one of the second's moved up
 pub split : (p m n : ℕ) → p < m + n → (p < m) ⊎ ((i : ℕ) × (p ≡ m + i) × (i < n))

@@ -7,10 +7,10 @@ use mathlib.Core.Logic.{_⊎_, inl, inr, _↔_}
 use lib.Dec.{T, ltb, ltb→lt, lt→ltb}
 use Rattle.bits.specs.Word.{bit, insert, all}
 use Rattle.bits.proofs.Laws.{bit-all}
-use Rattle.rules.specs.declared.kinds.Pair.the-variants.{Then}
-use Rattle.rules.specs.declared.counts.Counts.{Counts}
-use Rattle.rules.specs.Definition1.{Rule, Formula, two, counted, occurs}
-use Rattle.rules.specs.Encoding.{CountsFit}
+use Rattle.definitions.specs.declared.kinds.Pair.the-variants.{Then}
+use Rattle.definitions.specs.declared.counts.Counts.{Counts}
+use Rattle.definitions.specs.Definition1.{Rule, Formula, two, counted, occurs}
+use Rattle.definitions.specs.Encoding.{CountsFit}
 use Rattle.rules.specs.Weight.{weightOf, rowWeight, weightLimit}
 use Rattle.rules.proofs.Weighing.{weight-pos}
 use Rattle.automata.specs.declared.shape.Shape.{Shape}

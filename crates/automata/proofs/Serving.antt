@@ -7,7 +7,7 @@ use mathlib.Core.List.{List, [], _∷_}
 use lib.Dec.{T}
 use Rattle.bits.specs.Word.{bit}
 use Rattle.bits.proofs.Laws.{ext, bit-none, bit-above, lt-or-ge}
-use Rattle.rules.specs.Definition1.{Rule}
+use Rattle.definitions.specs.Definition1.{Rule}
 use Rattle.rules.specs.Weight.{weightOf}
 use Rattle.rules.proofs.Weighing.{weight-pos}
 use Rattle.automata.specs.Build.{auto}
@@ -18,7 +18,7 @@ use Rattle.bits.proofs.Truths.{same-truth, no-false, false-no}
 use Rattle.automata.proofs.TableOf.{edge-out, edge-in, final-out, final-in}
 use Rattle.automata.proofs.language.Lang.{Acc, Edge}
 use Rattle.automata.proofs.language.Language.{good, sound, complete, size-weight}
-use Rattle.rules.specs.Definition2.{letterCount}
+use Rattle.definitions.specs.Definition2.{letterCount}
 
 -- a step of the rule's automaton stays inside the weight and does not enter 0; a final state is inside it
 pub step-inside : (r : Rule) (p x q : ℕ) → auto r .step p x q → Edge (weightOf r) p q

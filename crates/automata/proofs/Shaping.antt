@@ -5,17 +5,17 @@ use native.Mathlib.Nat.{le-mul-of-pos-right, mul-comm, suc-mul}
 use mathlib.Core.Path.{_≡_, refl, ap, subst, _∙_}
 use mathlib.Core.List.{List}
 use lib.ListN.{getD}
-use Rattle.rules.specs.declared.kinds.Pair.{Pair}
-use Rattle.rules.specs.declared.kinds.Pair.the-variants.{Then, Overlap, Either, Within, Both}
-use Rattle.rules.specs.declared.kinds.Repeat.{Repeat}
-use Rattle.rules.specs.declared.kinds.RuleKind.the-variants.{Letter, Empty, Two, Again, Counted, Occurs}
-use Rattle.rules.specs.declared.kinds.Kind.the-variants.{OfRule}
-use Rattle.rules.specs.Definition1.{Rule, Formula, two, again, counted, occurs}
-use Rattle.rules.specs.Kinds.{kindOf}
-use Rattle.rules.specs.declared.counts.Counts.{Counts}
-use Rattle.rules.specs.Encoding.{CountsFit}
+use Rattle.definitions.specs.declared.kinds.Pair.{Pair}
+use Rattle.definitions.specs.declared.kinds.Pair.the-variants.{Then, Overlap, Either, Within, Both}
+use Rattle.definitions.specs.declared.kinds.Repeat.{Repeat}
+use Rattle.definitions.specs.declared.kinds.RuleKind.the-variants.{Letter, Empty, Two, Again, Counted, Occurs}
+use Rattle.definitions.specs.declared.kinds.Kind.the-variants.{OfRule}
+use Rattle.definitions.specs.Definition1.{Rule, Formula, two, again, counted, occurs}
+use Rattle.definitions.specs.Kinds.{kindOf}
+use Rattle.definitions.specs.declared.counts.Counts.{Counts}
+use Rattle.definitions.specs.Encoding.{CountsFit}
 use Rattle.rules.specs.Places.{GoodRule, FormulaEnds, RuleEnds}
-use Rattle.rules.specs.Walks.{CountsAs}
+use Rattle.definitions.specs.Encoding.{CountsAs}
 use Rattle.rules.specs.Weight.{weightOf, rowWeight, pairWeight, weightLimit}
 use Rattle.rules.proofs.Scan.{rule-ends}
 use Rattle.rules.proofs.Walks.{counts-told, told-counts}

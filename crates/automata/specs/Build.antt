@@ -5,10 +5,10 @@ use mathlib.Core.Path.{_≡_}
 use mathlib.Core.Logic.{_⊎_}
 use mathlib.Core.Bool.{Bool, not}
 use lib.Dec.{T}
-use Rattle.rules.specs.declared.kinds.Pair.the-variants.{Then, Overlap, Either, Within, Both}
-use Rattle.rules.specs.declared.kinds.Repeat.the-variants.{Star, Plus}
-use Rattle.rules.specs.Definition1.{Rule, letter, empty, two, again, counted, occurs, yea}
-use Rattle.rules.specs.Definition2.{holds}
+use Rattle.definitions.specs.declared.kinds.Pair.the-variants.{Then, Overlap, Either, Within, Both}
+use Rattle.definitions.specs.declared.kinds.Repeat.the-variants.{Star, Plus}
+use Rattle.definitions.specs.Definition1.{Rule, letter, empty, two, again, counted, occurs, yea}
+use Rattle.definitions.specs.Definition2.{holds}
 use Rattle.automata.specs.Auto.{Auto}
 
 -- The empty sequence: one state, which is final, and no step.

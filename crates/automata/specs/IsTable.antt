@@ -5,8 +5,8 @@ use mathlib.Core.List.{List}
 use lib.Dec.{T}
 use lib.ListN.{getD}
 use Rattle.bits.specs.Word.{bit}
-use Rattle.rules.specs.Definition1.{Rule}
-use Rattle.rules.specs.Definition2.{letterCount}
+use Rattle.definitions.specs.Definition1.{Rule}
+use Rattle.definitions.specs.Definition2.{letterCount}
 use Rattle.automata.specs.Table.{tableStates, cell}
 use Rattle.automata.specs.Build.{auto}
 

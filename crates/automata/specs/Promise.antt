@@ -2,8 +2,8 @@
 use Prim.Native.Nat.{ℕ, _<_, _≤_}
 use mathlib.Core.List.{List, [], _∷_}
 use lib.Dec.{T}
-use Rattle.rules.specs.Definition1.{Rule}
-use Rattle.rules.specs.Definition2.{letterCount, Sat}
+use Rattle.definitions.specs.Definition1.{Rule}
+use Rattle.definitions.specs.Definition2.{letterCount, Sat}
 use Rattle.automata.specs.Table.{tableStates, Table, Accepts}
 
 -- the letters of w are letters

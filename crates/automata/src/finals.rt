@@ -2,8 +2,8 @@
 ghost use mathlib.Core.Path.{_≡_};
 ghost use Prim.Native.Nat.{_+_, _*_, _/_, _%_, _<_, _≤_};
 ghost use Rattle.bits.specs.Word.{word};
-ghost use Rattle.rules.specs.Definition1.{Rule, two};
-ghost use Rattle.rules.specs.declared.kinds.Pair.the-variants.{Then, Either, Within, Both};
+ghost use Rattle.definitions.specs.Definition1.{Rule, two};
+ghost use Rattle.definitions.specs.declared.kinds.Pair.the-variants.{Then, Either, Within, Both};
 ghost use Rattle.rules.specs.Weight.{weightOf};
 ghost use Rattle.automata.specs.inner.Block.{FinalsAt};
 ghost use Rattle.automata.specs.inner.Sets.{Raised, pairFinal};

@@ -1,7 +1,7 @@
 // The shape of a rule: all that its operator needs to know of it besides its labels.
 ghost use Prim.Native.Nat.{ℕ, _<_, _≤_};
-ghost use Rattle.rules.specs.Definition1.{Rule, Formula, two, again, counted, occurs};
-ghost use Rattle.rules.specs.Encoding.{CountsFit};
+ghost use Rattle.definitions.specs.Definition1.{Rule, Formula, two, again, counted, occurs};
+ghost use Rattle.definitions.specs.Encoding.{CountsFit};
 ghost use Rattle.rules.specs.Weight.{pairWeight, weightLimit};
 ghost use Rattle.automata.specs.inner.Shapes.{Fits, ShapeOf, ShapedAs, MaybeShape};
 ghost use Rattle.automata.specs.inner.Shapes.{RowRoom};
@@ -10,16 +10,16 @@ use crate::finals::either_finals;
 use crate::finals::raise;
 use crate::finals::then_finals;
 use crate::finals::within_finals;
-use rules::counts::Counts;
-use rules::counts::after_one;
-use rules::counts::counts_at;
+use definitions::counts::Counts;
+use definitions::counts::after_one;
+use definitions::counts::counts_at;
+use definitions::kinds::Kind;
+use definitions::kinds::Pair;
+use definitions::kinds::Repeat;
+use definitions::kinds::RuleKind;
+use definitions::kinds::kind_of;
 use rules::ends::formula_past;
 use rules::ends::rule_past;
-use rules::kinds::Kind;
-use rules::kinds::Pair;
-use rules::kinds::Repeat;
-use rules::kinds::RuleKind;
-use rules::kinds::kind_of;
 
 // The empty sequence has one state, which is final; a letter has two, of which the second is.
 const EMPTY_FINALS: u64 = 1;

@@ -3,7 +3,7 @@ ghost use mathlib.Core.Path.{_≡_};
 ghost use Prim.Native.Nat.{_<_, _≤_};
 ghost use lib.ListN.{length};
 ghost use Rattle.bits.specs.Word.{bit};
-ghost use Rattle.rules.specs.Definition2.{letterCount};
+ghost use Rattle.definitions.specs.Definition2.{letterCount};
 ghost use Rattle.automata.specs.Table.{tableStates, tableEntries, cell};
 use crate::cells::get;
 

@@ -4,16 +4,16 @@ use native.Mathlib.Omega.{arith}
 use mathlib.Core.Path.{_≡_, refl, sym, subst}
 use mathlib.Core.List.{List}
 use lib.ListN.{length, getD}
-use Rattle.rules.specs.declared.kinds.Pair.{Pair}
-use Rattle.rules.specs.declared.kinds.Repeat.{Repeat}
-use Rattle.rules.specs.declared.kinds.RuleKind.the-variants.{Letter, Empty, Two, Again, Counted, Occurs}
-use Rattle.rules.specs.declared.kinds.Kind.the-variants.{OfRule}
-use Rattle.rules.specs.Definition1.{Rule, two, counted, occurs}
-use Rattle.rules.specs.Kinds.{kindOf}
+use Rattle.definitions.specs.declared.kinds.Pair.{Pair}
+use Rattle.definitions.specs.declared.kinds.Repeat.{Repeat}
+use Rattle.definitions.specs.declared.kinds.RuleKind.the-variants.{Letter, Empty, Two, Again, Counted, Occurs}
+use Rattle.definitions.specs.declared.kinds.Kind.the-variants.{OfRule}
+use Rattle.definitions.specs.Definition1.{Rule, two, counted, occurs}
+use Rattle.definitions.specs.Kinds.{kindOf}
 use Rattle.rules.specs.Places.{RuleAt}
 use Rattle.formulas.specs.declared.Labelled.{Labelled}
-use Rattle.rules.specs.declared.counts.Counts.{Counts}
-use Rattle.rules.specs.Walks.{CountsAs}
+use Rattle.definitions.specs.declared.counts.Counts.{Counts}
+use Rattle.definitions.specs.Encoding.{CountsAs}
 use Rattle.formulas.specs.Labels.{LabelledAs}
 use Rattle.rules.specs.Weight.{weightOf, pairWeight, weightLimit}
 use Rattle.rules.proofs.Scan.{rule-ends}

@@ -5,8 +5,8 @@ use mathlib.Core.Path.{_≡_, _∙_}
 use mathlib.Core.Logic.{_⊎_, inl, inr, _↔_, Iff·symm, Iff·trans}
 use mathlib.Core.List.{List}
 use Rattle.bits.proofs.Laws.{lt-or-ge}
-use Rattle.rules.specs.declared.kinds.Pair.the-variants.{Either}
-use Rattle.rules.specs.Definition1.{Rule, two}
+use Rattle.definitions.specs.declared.kinds.Pair.the-variants.{Either}
+use Rattle.definitions.specs.Definition1.{Rule, two}
 use Rattle.rules.specs.Weight.{weightOf}
 use Rattle.automata.specs.declared.shape.Shape.{Shape}
 use Rattle.automata.specs.Table.{tableStates, cell}
@@ -19,7 +19,7 @@ use Rattle.automata.proofs.language.Eithers.{either-a, either-b}
 use Rattle.automata.proofs.language.Language.{good, size-weight}
 use Rattle.automata.proofs.Serving.{step-inside}
 use Rattle.automata.proofs.Places.{by-cell, by-none, drop-none, block-at, drop-sum, blank}
-use Rattle.rules.specs.Definition2.{letterCount}
+use Rattle.definitions.specs.Definition2.{letterCount}
 
 -- a state of `|` is the new one, one of a's moved up by 1, or one of b's moved up by 1+m
 data Third (m n p : ℕ) : Type 0 where

@@ -4,8 +4,8 @@ use native.Mathlib.Omega.{arith}
 use mathlib.Core.Path.{_≡_, refl, _∙_}
 use mathlib.Core.Logic.{_⊎_, inl, inr, _↔_, Iff·symm, Iff·trans}
 use mathlib.Core.List.{List}
-use Rattle.rules.specs.declared.kinds.Pair.the-variants.{Then, Overlap}
-use Rattle.rules.specs.Definition1.{Rule, two}
+use Rattle.definitions.specs.declared.kinds.Pair.the-variants.{Then, Overlap}
+use Rattle.definitions.specs.Definition1.{Rule, two}
 use Rattle.rules.specs.Weight.{weightOf}
 use Rattle.automata.specs.declared.shape.Shape.{Shape}
 use Rattle.automata.specs.Table.{tableStates, cell}
@@ -22,7 +22,7 @@ use Rattle.rules.proofs.Weighing.{weight-pos}
 use Rattle.automata.proofs.Serving.{step-inside, final-inside}
 use Rattle.automata.proofs.FinalSets.{raise-finals}
 use Rattle.automata.proofs.Places.{split, by-cell, by-none, drop-none, block-at, drop-sum, final-at, blank}
-use Rattle.rules.specs.Definition2.{letterCount}
+use Rattle.definitions.specs.Definition2.{letterCount}
 
 module _ (t t₂ t₃ : List ℕ) (base : ℕ) (a b : Rule) (g : ℕ → ℕ → ℕ) (room : base + weightOf a + weightOf b ≤ tableStates) (clean : Clean t base) (s : Beside t t₂ base a b)
     (put : Put t₂ t₃ base (base + weightOf a) (base + weightOf a) (base + weightOf a + weightOf b) g) (S : ℕ → ℕ → ℕ → Type 0)

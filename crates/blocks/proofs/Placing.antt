@@ -3,9 +3,9 @@ use Prim.Native.Nat.{ℕ, _+_, _<_, _≤_}
 use native.Mathlib.Omega.{arith}
 use mathlib.Core.Logic.{_⊎_, inl, inr}
 use mathlib.Core.List.{List}
-use Rattle.rules.specs.declared.kinds.Pair.{Pair}
-use Rattle.rules.specs.declared.kinds.Pair.the-variants.{Both}
-use Rattle.rules.specs.Definition1.{Rule}
+use Rattle.definitions.specs.declared.kinds.Pair.{Pair}
+use Rattle.definitions.specs.declared.kinds.Pair.the-variants.{Both}
+use Rattle.definitions.specs.Definition1.{Rule}
 use Rattle.rules.specs.Places.{RuleAt}
 use Rattle.rules.specs.Weight.{weightOf}
 use Rattle.rules.proofs.Weighing.{weight-pos}

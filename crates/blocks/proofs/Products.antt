@@ -6,8 +6,8 @@ use native.Mathlib.Decide.{decLt}
 use mathlib.Core.Path.{_≡_, refl, sym, ap, _∙_}
 use mathlib.Core.Logic.{_⊎_, inl, inr, _↔_}
 use mathlib.Core.List.{List}
-use Rattle.rules.specs.declared.kinds.Pair.the-variants.{Both}
-use Rattle.rules.specs.Definition1.{Rule, two}
+use Rattle.definitions.specs.declared.kinds.Pair.the-variants.{Both}
+use Rattle.definitions.specs.Definition1.{Rule, two}
 use Rattle.rules.specs.Weight.{weightOf}
 use Rattle.automata.specs.declared.shape.Shape.{Shape}
 use Rattle.blocks.specs.declared.fill.Place.the-variants.{Nowhere, From}
@@ -23,7 +23,7 @@ use Rattle.rules.proofs.Weighing.{weight-pos}
 use Rattle.automata.proofs.Serving.{step-inside}
 use Rattle.automata.proofs.Places.{by-cell, by-none, block-at, built-over}
 use Rattle.blocks.proofs.Pairing.{moved-block}
-use Rattle.rules.specs.Definition2.{letterCount}
+use Rattle.definitions.specs.Definition2.{letterCount}
 
 both-step-at : (a b : Rule) (p q i j k l x : ℕ) → p ≡ i * weightOf b + j → q ≡ k * weightOf b + l → j < weightOf b → l < weightOf b
     → auto (two Both a b) .step p x q ↔ (auto a .step i x k × auto b .step j x l)

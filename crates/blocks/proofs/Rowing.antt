@@ -4,9 +4,9 @@ use native.Mathlib.Omega.{arith}
 use mathlib.Core.Path.{_≡_, refl}
 use mathlib.Core.Logic.{_↔_}
 use mathlib.Core.List.{List}
-use Rattle.rules.specs.declared.kinds.Pair.the-variants.{Then}
-use Rattle.rules.specs.declared.counts.Counts.{Counts}
-use Rattle.rules.specs.Definition1.{Rule, two, counted}
+use Rattle.definitions.specs.declared.kinds.Pair.the-variants.{Then}
+use Rattle.definitions.specs.declared.counts.Counts.{Counts}
+use Rattle.definitions.specs.Definition1.{Rule, two, counted}
 use Rattle.rules.specs.Weight.{weightOf}
 use Rattle.automata.specs.declared.shape.Shape.{Shape}
 use Rattle.automata.specs.Table.{tableStates, cell}

@@ -8,8 +8,8 @@ use lib.Dec.{T}
 use borrow.Author.Tests.{lt-ltb}
 use Rattle.bits.specs.Word.{bit, word, all}
 use Rattle.bits.proofs.Laws.{lt-or-ge, bit-word, bit-all}
-use Rattle.rules.specs.Definition1.{Formula, yea, letter, empty}
-use Rattle.rules.specs.Definition2.{letterCount, holds}
+use Rattle.definitions.specs.Definition1.{Formula, yea, letter, empty}
+use Rattle.definitions.specs.Definition2.{letterCount, holds}
 use Rattle.automata.specs.Table.{tableStates, cell}
 use Rattle.automata.specs.Build.{auto, LetterStep, the-label, letterA, PlusStep}
 use Rattle.automata.specs.inner.Cells.{In, Put, Clean}

@@ -11,8 +11,8 @@ use lib.Dec.{T}
 use borrow.Author.Tests.{eq-eqb, ne-eqb}
 use Rattle.bits.specs.Word.{bit, word}
 use Rattle.bits.proofs.Laws.{bit-word, word-not, lt-or-ge}
-use Rattle.rules.specs.Definition1.{Formula, occurs}
-use Rattle.rules.specs.Definition2.{letterCount, holds}
+use Rattle.definitions.specs.Definition1.{Formula, occurs}
+use Rattle.definitions.specs.Definition2.{letterCount, holds}
 use Rattle.automata.specs.Table.{tableStates, cell}
 use Rattle.automata.specs.Build.{auto, Satisfied, at-first, so-far, OccursStep}
 use Rattle.automata.specs.inner.Cells.{In, Put, Clean, tallied}

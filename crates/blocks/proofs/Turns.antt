@@ -4,9 +4,9 @@ use native.Mathlib.Omega.{arith}
 use mathlib.Core.Path.{_≡_, refl, _∙_}
 use mathlib.Core.Logic.{_⊎_, inl, inr, ⊎-map, _↔_}
 use mathlib.Core.List.{List}
-use Rattle.rules.specs.declared.kinds.Repeat.{Repeat}
-use Rattle.rules.specs.declared.kinds.Repeat.the-variants.{Star, Plus}
-use Rattle.rules.specs.Definition1.{Rule, again}
+use Rattle.definitions.specs.declared.kinds.Repeat.{Repeat}
+use Rattle.definitions.specs.declared.kinds.Repeat.the-variants.{Star, Plus}
+use Rattle.definitions.specs.Definition1.{Rule, again}
 use Rattle.rules.specs.Weight.{weightOf}
 use Rattle.automata.specs.declared.shape.Shape.{Shape}
 use Rattle.automata.specs.Table.{tableStates, cell}
@@ -18,7 +18,7 @@ use Rattle.blocks.specs.inner.Building.{Repeats}
 use Rattle.automata.proofs.Labels.{Has, has-linked}
 use Rattle.automata.proofs.FinalSets.{raise-finals}
 use Rattle.automata.proofs.Places.{by-cell, block-at, final-at}
-use Rattle.rules.specs.Definition2.{letterCount}
+use Rattle.definitions.specs.Definition2.{letterCount}
 
 plus-split : (a : Rule) (p x q : ℕ) → PlusStep (auto a) p x q ↔ (auto a .step p x q ⊎ (auto a .final p × auto a .step 0 x q))
 plus-split a p x q = (out, back)

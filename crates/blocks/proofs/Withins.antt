@@ -8,8 +8,8 @@ use mathlib.Core.List.{List}
 use lib.ListN.{replicate, length-replicate, getD-replicate, List·getD-eq-default}
 use Rattle.bits.specs.Word.{all}
 use Rattle.bits.proofs.Laws.{lt-or-ge}
-use Rattle.rules.specs.declared.kinds.Pair.the-variants.{Then, Within, Both}
-use Rattle.rules.specs.Definition1.{Rule, two}
+use Rattle.definitions.specs.declared.kinds.Pair.the-variants.{Then, Within, Both}
+use Rattle.definitions.specs.Definition1.{Rule, two}
 use Rattle.rules.specs.Weight.{weightOf}
 use Rattle.rules.proofs.Weighing.{weight-pos}
 use Rattle.automata.specs.declared.shape.Shape.{Shape}
@@ -28,7 +28,7 @@ use Rattle.blocks.proofs.Choices.{either-built}
 use Rattle.blocks.proofs.Products.{both-built}
 use Rattle.blocks.proofs.Pairing.{moved-block}
 use Rattle.automata.specs.Table.{tableStates}
-use Rattle.rules.specs.Definition2.{letterCount}
+use Rattle.definitions.specs.Definition2.{letterCount}
 
 -- {a;true[*]}
 pub padded : (t t₁ t₂ t₃ : List ℕ) (base mid hi f : ℕ) (x : Rule) → Clean t base → mid ≡ base + weightOf x → hi ≡ mid + 2 → hi ≤ tableStates → FinalsAt f base x

@@ -4,15 +4,15 @@ ghost use mathlib.Core.Path.{_≡_};
 ghost use Prim.Native.Nat.{ℕ, _+_, _*_, _≤_};
 ghost use lib.ListN.{length};
 ghost use Rattle.bits.specs.Word.{all};
-ghost use Rattle.rules.specs.Definition1.{Rule, two};
+ghost use Rattle.definitions.specs.Definition1.{Rule, two};
 ghost use Rattle.rules.specs.Weight.{weightOf};
-ghost use Rattle.rules.specs.declared.kinds.Pair.the-variants.{Then};
+ghost use Rattle.definitions.specs.declared.kinds.Pair.the-variants.{Then};
 ghost use Rattle.automata.specs.inner.Block.{FinalsAt, Built, anyRule};
 ghost use Rattle.automata.specs.inner.Cells.{Put, Clean};
 ghost use Rattle.automata.specs.Table.{tableStates};
-ghost use Rattle.rules.specs.Definition2.{letterCount};
-use automata::cells::put;
+ghost use Rattle.definitions.specs.Definition2.{letterCount};
 use crate::link::link;
+use automata::cells::put;
 use formulas::LETTER_COUNT;
 
 // The two states at base and base + 1: every letter leads from either to the second.

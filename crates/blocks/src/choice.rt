@@ -1,7 +1,7 @@
 // `|` over two blocks behind a new first state.
 ghost use Prim.Native.Nat.{_+_, _<_, _≤_};
 ghost use lib.ListN.{length};
-ghost use Rattle.rules.specs.declared.kinds.Pair.the-variants.{Either};
+ghost use Rattle.definitions.specs.declared.kinds.Pair.the-variants.{Either};
 ghost use Rattle.automata.specs.Table.{tableStates, tableEntries};
 ghost use Rattle.automata.specs.inner.Cells.{Put, chosen};
 ghost use Rattle.blocks.specs.inner.Building.{Room, Joins};

@@ -2,18 +2,20 @@
 // in the bytes. The walk builds an operator's operands side by side; the operator itself works on their blocks and knows nothing of the walk.
 ghost use mathlib.Core.Path.{_≡_};
 ghost use lib.ListN.{getD};
-ghost use Rattle.rules.specs.declared.kinds.Kind.the-variants.{OfRule};
-ghost use Rattle.rules.specs.declared.kinds.RuleKind.the-variants.{Two};
-ghost use Rattle.rules.specs.Kinds.{kindOf};
+ghost use Rattle.definitions.specs.declared.kinds.Kind.the-variants.{OfRule};
+ghost use Rattle.definitions.specs.declared.kinds.RuleKind.the-variants.{Two};
+ghost use Rattle.definitions.specs.Kinds.{kindOf};
 ghost use Rattle.automata.specs.inner.Shapes.{Fits, ShapedAs};
 ghost use Rattle.blocks.specs.inner.Building.{Ready, Room, Joins, PlacedAt, BuiltAt};
-use automata::cells::put;
 use crate::choice::either;
 use crate::link::again;
 use crate::link::then;
 use crate::overlap::overlap;
 use crate::product::both;
 use crate::row::row;
+use crate::tally::tally;
+use crate::within::within;
+use automata::cells::put;
 use automata::shape::LETTER_FINALS;
 use automata::shape::Shape;
 use automata::shape::again_shape;
@@ -21,14 +23,12 @@ use automata::shape::occurs_shape;
 use automata::shape::pair_shape;
 use automata::shape::row_shape;
 use automata::shape::shape_at;
-use crate::tally::tally;
-use crate::within::within;
-use rules::counts::counts_at;
+use definitions::counts::counts_at;
+use definitions::kinds::Kind;
+use definitions::kinds::Pair;
+use definitions::kinds::RuleKind;
+use definitions::kinds::kind_of;
 use formulas::label_and_end;
-use rules::kinds::Kind;
-use rules::kinds::Pair;
-use rules::kinds::RuleKind;
-use rules::kinds::kind_of;
 
 // Where an operator wants its operands' blocks, one behind the other.
 pub enum Place {

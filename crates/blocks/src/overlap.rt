@@ -3,7 +3,7 @@ ghost use Prim.Native.Nat.{_+_, _-_, _<_, _≤_};
 ghost use lib.ListN.{length};
 ghost use lib.Bits.{bitOr, bitAnd};
 ghost use Rattle.automata.specs.Table.{tableStates, tableEntries, cell};
-ghost use Rattle.rules.specs.declared.kinds.Pair.the-variants.{Overlap};
+ghost use Rattle.definitions.specs.declared.kinds.Pair.the-variants.{Overlap};
 ghost use Rattle.automata.specs.inner.Cells.{Put, overlappedBy, overlapped};
 ghost use Rattle.blocks.specs.inner.Building.{Room, Joins};
 use automata::cells::get;

@@ -2,7 +2,7 @@
 ghost use mathlib.Core.Path.{_≡_};
 ghost use Prim.Native.Nat.{_+_, _*_, _<_, _≤_};
 ghost use lib.ListN.{length};
-ghost use Rattle.rules.specs.declared.kinds.Pair.the-variants.{Both};
+ghost use Rattle.definitions.specs.declared.kinds.Pair.the-variants.{Both};
 ghost use Rattle.automata.specs.Table.{tableStates, tableEntries};
 ghost use Rattle.automata.specs.inner.Cells.{Put, moved, paired};
 ghost use Rattle.blocks.specs.inner.Building.{Room, Joins, PairsFit};

@@ -5,13 +5,13 @@ ghost use Rattle.automata.specs.Table.{tableStates, tableEntries};
 ghost use Rattle.automata.specs.inner.Cells.{Put, moved};
 ghost use Rattle.blocks.specs.inner.Building.{RowOf};
 ghost use Rattle.automata.specs.inner.Shapes.{RowRoom};
+use crate::link::then;
 use automata::cells::get;
 use automata::cells::put;
-use crate::link::then;
 use automata::shape::Shape;
 use automata::shape::row_shape;
-use rules::counts::Counts;
-use rules::counts::after_one;
+use definitions::counts::Counts;
+use definitions::counts::after_one;
 
 // Row i of the block of n states at from becomes row i of the block behind it.
 fn double_row(t: &mut [u64], from: usize, n: usize, i: usize)

@@ -4,8 +4,8 @@ ghost use lib.ListN.{length};
 ghost use Rattle.automata.specs.Table.{tableStates, tableEntries};
 ghost use Rattle.automata.specs.inner.Cells.{Put, tallied};
 ghost use Rattle.blocks.specs.inner.Building.{TallyOf};
-use automata::cells::put;
 use crate::link::unite_row;
+use automata::cells::put;
 
 // State p of those below hi: a letter that does not satisfy the formula keeps the count, one that does raises it, if there is a state for that.
 fn tally_row(t: &mut [u64], p: usize, hi: usize, hit: u64, miss: u64)

@@ -1,8 +1,8 @@
 // `&`, which is {a && {b;true[*]}} | {{a;true[*]} && b}.
 ghost use Prim.Native.Nat.{ℕ, _+_, _*_, _≤_};
 ghost use lib.ListN.{length};
-ghost use Rattle.rules.specs.Definition1.{Rule, two};
-ghost use Rattle.rules.specs.declared.kinds.Pair.the-variants.{Then, Within};
+ghost use Rattle.definitions.specs.Definition1.{Rule, two};
+ghost use Rattle.definitions.specs.declared.kinds.Pair.the-variants.{Then, Within};
 ghost use Rattle.automata.specs.inner.Block.{Block, Built, anyRule};
 ghost use Rattle.automata.specs.inner.Cells.{Clean};
 ghost use Rattle.automata.specs.inner.Shapes.{ShapeOf};
@@ -10,11 +10,11 @@ ghost use Rattle.blocks.specs.inner.Building.{Room, Joins};
 ghost use Rattle.automata.specs.Table.{tableStates};
 use crate::any::pad;
 use crate::choice::choice;
-use automata::finals::raise;
 use crate::product::COPY_ENTRIES;
 use crate::product::Pairs;
 use crate::product::copy_block;
 use crate::product::product;
+use automata::finals::raise;
 use automata::shape::Shape;
 
 // The block at from in t is copied to `to`, with `true[*]` behind it: {a;true[*]}.

@@ -6,9 +6,9 @@ use mathlib.Core.List.{List, _++_}
 use lib.ListN.{length, take, drop}
 use lib.Seq.{take-at}
 use Rattle.rules.specs.declared.Known.{Known}
-use Rattle.rules.specs.Definition1.{Rule}
+use Rattle.definitions.specs.Definition1.{Rule}
 use Rattle.rules.specs.Weight.{weightOf}
-use Rattle.rules.specs.Encoding.{spell}
+use Rattle.definitions.specs.Encoding.{spell}
 use Rattle.rules.specs.Answer.{knownOf}
 use Rattle.rules.specs.Answer as rules
 use Rattle.rules.proofs.Faulting.{refused-line, line-refused}

@@ -5,7 +5,7 @@ use mathlib.Core.Path.{_≡_, refl, sym, ap, subst, _∙_}
 use mathlib.Core.List.{List}
 use lib.ListN.{take}
 use Rattle.rules.specs.declared.Known.{Known}
-use Rattle.rules.specs.Definition1.{Rule}
+use Rattle.definitions.specs.Definition1.{Rule}
 use Rattle.rules.specs.Answer.{knownOf}
 use Rattle.tables.specs.Answer as tables
 use Rattle.tables.specs.Beyond.{Beyond}

@@ -6,7 +6,7 @@ use mathlib.Core.Logic.{_↔_}
 use mathlib.Core.List.{List}
 use lib.Dec.{T}
 use Rattle.bits.specs.Word.{bit}
-use Rattle.rules.specs.Definition1.{Rule}
+use Rattle.definitions.specs.Definition1.{Rule}
 use Rattle.automata.specs.Table.{Table}
 use Rattle.models.specs.Model.{Model, Run}
 use Rattle.models.specs.Faults.{ModelFault}

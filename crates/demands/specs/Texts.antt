@@ -6,9 +6,9 @@ use mathlib.Core.Logic.{_↔_}
 use mathlib.Core.List.{List, _++_}
 use lib.ListN.{length, take, drop}
 use Rattle.rules.specs.declared.Known.{Known}
-use Rattle.rules.specs.Definition1.{Rule}
+use Rattle.definitions.specs.Definition1.{Rule}
 use Rattle.rules.specs.Weight.{weightOf}
-use Rattle.rules.specs.Encoding.{spell, Small}
+use Rattle.definitions.specs.Encoding.{spell, Small}
 use Rattle.rules.specs.Answer.{knownOf}
 use Rattle.rules.specs.Faults.{RuleFault}
 use Rattle.texts.specs.declared.TextAnswer.{TextAnswer}

@@ -6,8 +6,8 @@ use mathlib.Core.Logic.{_⊎_, _↔_}
 use mathlib.Core.List.{List}
 use lib.ListN.{length, getD, take}
 use Rattle.rules.specs.declared.Known.{Known}
-use Rattle.rules.specs.Definition1.{Rule}
-use Rattle.rules.specs.Definition2.{Sat}
+use Rattle.definitions.specs.Definition1.{Rule}
+use Rattle.definitions.specs.Definition2.{Sat}
 use Rattle.rules.specs.Weight.{weightOf}
 use Rattle.rules.specs.Answer.{knownOf}
 use Rattle.automata.specs.Table.{tableOf, Accepts}

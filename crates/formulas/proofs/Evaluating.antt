@@ -6,13 +6,13 @@ use mathlib.Core.List.{List}
 use native.Mathlib.Omega.{arith}
 use lib.ListN.{getD}
 use Rattle.bits.specs.Word.{bit}
-use Rattle.rules.specs.declared.kinds.Junction.{Junction}
-use Rattle.rules.specs.declared.kinds.FormulaKind.the-variants.{Proposition, Truth, Falsity, Not, Join}
-use Rattle.rules.specs.declared.kinds.Kind.the-variants.{OfFormula}
+use Rattle.definitions.specs.declared.kinds.Junction.{Junction}
+use Rattle.definitions.specs.declared.kinds.FormulaKind.the-variants.{Proposition, Truth, Falsity, Not, Join}
+use Rattle.definitions.specs.declared.kinds.Kind.the-variants.{OfFormula}
 use Rattle.formulas.specs.declared.Held.{Held}
-use Rattle.rules.specs.Definition1.{Formula}
-use Rattle.rules.specs.Definition2.{holds, joined}
-use Rattle.rules.specs.Kinds.{kindOf}
+use Rattle.definitions.specs.Definition1.{Formula}
+use Rattle.definitions.specs.Definition2.{holds, joined}
+use Rattle.definitions.specs.Kinds.{kindOf}
 use Rattle.formulas.specs.Labels.{HoldsAs}
 use Rattle.rules.proofs.PlacesOnce.{formula-of}
 

@@ -9,14 +9,14 @@ use lib.Bits.{bitOr, bitAnd}
 use lib.ListN.{length, getD}
 use Rattle.bits.specs.Word.{word}
 use Rattle.bits.proofs.Laws.{word-lt, word-and, word-or, word-not, word-no-bit, word-every-bit}
-use Rattle.rules.specs.declared.kinds.Junction.{Junction}
-use Rattle.rules.specs.declared.kinds.Junction.the-variants.{And, Or}
-use Rattle.rules.specs.declared.kinds.FormulaKind.the-variants.{Proposition, Truth, Falsity, Not, Join}
-use Rattle.rules.specs.declared.kinds.Kind.the-variants.{OfFormula}
+use Rattle.definitions.specs.declared.kinds.Junction.{Junction}
+use Rattle.definitions.specs.declared.kinds.Junction.the-variants.{And, Or}
+use Rattle.definitions.specs.declared.kinds.FormulaKind.the-variants.{Proposition, Truth, Falsity, Not, Join}
+use Rattle.definitions.specs.declared.kinds.Kind.the-variants.{OfFormula}
 use Rattle.formulas.specs.declared.Labelled.{Labelled}
-use Rattle.rules.specs.Definition1.{Formula, prop}
-use Rattle.rules.specs.Definition2.{letterCount, lastProposition, holds}
-use Rattle.rules.specs.Kinds.{kindOf}
+use Rattle.definitions.specs.Definition1.{Formula, prop}
+use Rattle.definitions.specs.Definition2.{letterCount, lastProposition, holds}
+use Rattle.definitions.specs.Kinds.{kindOf}
 use Rattle.formulas.specs.Labels.{LabelledAs, LabelsJoin, NotsTo, PropositionLabels, flipped}
 use Rattle.rules.proofs.PlacesOnce.{formula-of}
 

@@ -5,9 +5,9 @@ use mathlib.Core.Bool.{Bool, true, false}
 use mathlib.Core.List.{List}
 use lib.ListN.{length, getD}
 use Rattle.bits.specs.Word.{word}
-use Rattle.rules.specs.declared.kinds.Junction.{Junction}
-use Rattle.rules.specs.Definition1.{Formula, prop}
-use Rattle.rules.specs.Definition2.{letterCount, lastProposition, joined, holds}
+use Rattle.definitions.specs.declared.kinds.Junction.{Junction}
+use Rattle.definitions.specs.Definition1.{Formula, prop}
+use Rattle.definitions.specs.Definition2.{letterCount, lastProposition, joined, holds}
 use Rattle.rules.specs.Places.{FormulaAt}
 use Rattle.formulas.specs.declared.Held.{Held}
 use Rattle.formulas.specs.declared.Labelled.{Labelled}

@@ -1,13 +1,13 @@
 // A formula that stands in the bytes: whether it holds in a letter, and its label.
 ghost use mathlib.Core.Path.{_≡_};
 ghost use Prim.Native.Nat.{_≤_};
-ghost use Rattle.rules.specs.Definition2.{joined};
+ghost use Rattle.definitions.specs.Definition2.{joined};
 ghost use Rattle.rules.specs.Places.{GoodFormula};
 ghost use Rattle.formulas.specs.Labels.{HoldsAs, LabelAs, LabelledAs, LabelsJoin, NotsTo, PropositionLabels, flipped};
-use rules::kinds::FormulaKind;
-use rules::kinds::Junction;
-use rules::kinds::Kind;
-use rules::kinds::kind_of;
+use definitions::kinds::FormulaKind;
+use definitions::kinds::Junction;
+use definitions::kinds::Kind;
+use definitions::kinds::kind_of;
 
 pub const LETTER_COUNT: usize = 64;
 

@@ -7,11 +7,11 @@ use mathlib.Core.List.{List, [], _∷_, _++_}
 use lib.ListN.{length, getD, drop, drop-of-length-le}
 use lib.Seq.{drop-cons}
 use borrow.Author.Tests.{ne-eqb}
-use Rattle.rules.specs.declared.kinds.Junction.{Junction}
-use Rattle.rules.specs.declared.kinds.Junction.the-variants.{And, Or}
-use Rattle.rules.specs.declared.kinds.Pair.{Pair}
-use Rattle.rules.specs.declared.kinds.Pair.the-variants.{Then, Overlap, Either, Within, Both}
-use Rattle.rules.specs.Encoding.{junctionByte, pairByte}
+use Rattle.definitions.specs.declared.kinds.Junction.{Junction}
+use Rattle.definitions.specs.declared.kinds.Junction.the-variants.{And, Or}
+use Rattle.definitions.specs.declared.kinds.Pair.{Pair}
+use Rattle.definitions.specs.declared.kinds.Pair.the-variants.{Then, Overlap, Either, Within, Both}
+use Rattle.definitions.specs.Encoding.{junctionByte, pairByte}
 use Rattle.grammar.specs.declared.counts.Counted.{Counted}
 use Rattle.grammar.specs.declared.counts.Counted.the-variants as counted-told
 use Rattle.grammar.specs.declared.signs.Head.{Head}

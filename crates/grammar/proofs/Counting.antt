@@ -6,7 +6,7 @@ use mathlib.Core.Bool.{Bool, true, false, cond, _&&_}
 use mathlib.Core.List.{List, [], _∷_, _++_}
 use lib.Dec.{leb}
 use borrow.Author.Tests.{le-leb, lt-leb, eq-eqb, ne-eqb}
-use Rattle.rules.specs.Encoding.{largestCount}
+use Rattle.definitions.specs.Encoding.{largestCount}
 use Rattle.grammar.specs.inner.Reading.{Which, low, high, Digits, all, rest, Need, number, sign, Value, Rest, Row, row, only, stop, others, more, near, digitTo, ended, numberRows, rows, broken, feed, pick, scan}
 use Rattle.grammar.proofs.Picking.{Closes, Opens, at-once}
 

@@ -7,7 +7,7 @@ use mathlib.Core.Bool.{false}
 use mathlib.Core.List.{List, [], _∷_, _++_}
 use lib.ListN.{length, getD, drop, drop-of-length-le}
 use lib.Seq.{drop-cons}
-use Rattle.rules.specs.Encoding.{largestCount}
+use Rattle.definitions.specs.Encoding.{largestCount}
 use Rattle.writing.specs.Decimal.{decimal}
 use Rattle.grammar.specs.declared.counts.Counted.{Counted}
 use Rattle.grammar.specs.declared.counts.Counted.the-variants as counted-told

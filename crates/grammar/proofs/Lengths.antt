@@ -4,10 +4,10 @@ use native.Mathlib.Omega.{arith}
 use mathlib.Core.Path.{_≡_}
 use mathlib.Core.List.{List, [], _∷_, _++_}
 use lib.ListN.{length, length-append}
-use Rattle.rules.specs.declared.kinds.Pair.{Pair}
-use Rattle.rules.specs.declared.kinds.Pair.the-variants.{Then, Overlap, Either, Within, Both}
-use Rattle.rules.specs.Definition1.{Formula, prop, yea, nay, neg, join, Rule, letter, empty, two, again, counted, occurs}
-use Rattle.rules.specs.Encoding.{Small, spellF, spell}
+use Rattle.definitions.specs.declared.kinds.Pair.{Pair}
+use Rattle.definitions.specs.declared.kinds.Pair.the-variants.{Then, Overlap, Either, Within, Both}
+use Rattle.definitions.specs.Definition1.{Formula, prop, yea, nay, neg, join, Rule, letter, empty, two, again, counted, occurs}
+use Rattle.definitions.specs.Encoding.{Small, spellF, spell}
 use Rattle.grammar.specs.Text.{junctionChar, pairSign, repeatChar, countsText, formulaText, text}
 use Rattle.grammar.specs.inner.Wide.{wide}
 use Rattle.grammar.proofs.Numbers.{counts-length}

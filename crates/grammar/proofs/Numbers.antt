@@ -5,7 +5,7 @@ use native.Mathlib.Decide.{decLt}
 use mathlib.Core.Path.{_≡_, refl, sym, ap, ap₂, _∙_}
 use mathlib.Core.List.{List, [], _∷_, _++_}
 use lib.ListN.{length, drop, length-append}
-use Rattle.rules.specs.Encoding.{largestCount, CountsFit}
+use Rattle.definitions.specs.Encoding.{largestCount, CountsFit}
 use Rattle.writing.specs.Decimal.{digit, decimal}
 use Rattle.writing.proofs.Decimals.{decimal-few, decimal-more}
 use Rattle.grammar.specs.Text.{countsText}

@@ -7,8 +7,8 @@ use mathlib.Core.Option.{Option, none, some}
 use mathlib.Core.List.{List, [], _∷_, _++_, append-assoc, append-nil}
 use lib.Dec.{eqb, leb}
 use borrow.Author.Tests.{leb-true}
-use Rattle.rules.specs.Definition1.{Formula, Rule}
-use Rattle.rules.specs.Encoding.{largestCount, CountsFit, SmallF, Small}
+use Rattle.definitions.specs.Definition1.{Formula, Rule}
+use Rattle.definitions.specs.Encoding.{largestCount, CountsFit, SmallF, Small}
 use Rattle.writing.specs.Decimal.{decimal}
 use Rattle.grammar.specs.Text.{formulaText, text}
 use Rattle.grammar.specs.inner.Reading.{Which, low, high, Digits, all, rest, Need, rule, formula, digit, junction, tail, second, bracket, star, occurrence, number, sign, Counts, uncounted, from, Bracket, plus, starred, Tail, pair, repeated, Second, within, both, Value, Values, fore, aft, Row, row, only, bracketed, closed, seconded, standing, formulaRows, ruleRows, asRule, asSecond, stop, others, more, near, digitTo, ended, numberRows, counts, asStar, rows, missing}

@@ -1,7 +1,7 @@
 // The counts of a repetition at a place of the text: decimal, no zero in front, the second no less than the first.
 ghost use Prim.Native.Nat.{_≤_};
 ghost use lib.ListN.{length};
-ghost use Rattle.rules.specs.Encoding.{largestCount};
+ghost use Rattle.definitions.specs.Encoding.{largestCount};
 ghost use Rattle.grammar.specs.inner.Reading.{all, rest};
 ghost use Rattle.grammar.specs.inner.Places.{DigitAt, NumberAt, HighAt, CountedAt};
 use crate::words::Ended;

@@ -7,8 +7,8 @@ use mathlib.Core.List.{List, [], _∷_}
 use native.Mathlib.Omega.{arith}
 use lib.Dec.{T}
 use lib.ListN.{length, getD}
-use Rattle.rules.specs.Definition1.{Rule}
-use Rattle.rules.specs.Definition2.{letterCount}
+use Rattle.definitions.specs.Definition1.{Rule}
+use Rattle.definitions.specs.Definition2.{letterCount}
 use Rattle.automata.specs.Table.{Table, Accepts, tableStates}
 use Rattle.automata.specs.Promise.{Letters, Serves}
 use Rattle.models.specs.Model.{Model, Walk, NonEmpty, Run, last, spelled, modelStates}

@@ -4,7 +4,7 @@ use mathlib.Core.Path.{_≡_}
 use mathlib.Core.List.{List}
 use lib.Dec.{T}
 use lib.ListN.{length, getD}
-use Rattle.rules.specs.Definition2.{letterCount}
+use Rattle.definitions.specs.Definition2.{letterCount}
 use Rattle.automata.specs.Table.{Table, tableStates, tableEntries, tableOf}
 use Rattle.tables.specs.Beyond.{Beyond}
 use Rattle.models.specs.Model.{Model, modelStates}

@@ -14,8 +14,8 @@ use crate::marks::filter;
 use crate::shape::BEGIN;
 use crate::shape::MODEL_STATES;
 use crate::shape::Sizes;
-use steps::rows::union;
 use automata::STATES;
+use steps::rows::union;
 
 // The table states that are held after state t on the level: those that `held` leads to and that lie on a shortest match.
 fn onward(

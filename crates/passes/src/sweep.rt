@@ -13,8 +13,8 @@ ghost use Rattle.passes.specs.inner.Waves.{Queued, Pushed, Sent, Sending
 use crate::marks::filter;
 use crate::marks::push_all;
 use crate::shape::Wave;
-use steps::rows::union;
 use automata::STATES;
+use steps::rows::union;
 
 // What state s hands to t.
 fn sent(successors: &[u64], front: &[u64], s: usize, t: usize) -> u64

@@ -12,8 +12,4 @@ pub mod Ended
 pub mod Once
 pub mod EndsOnce
 pub mod Accepting
-pub mod Maps
-pub mod PartsInARow
-pub mod Deciding
-pub mod Held
 pub mod Faulting

@@ -5,19 +5,19 @@ use mathlib.Core.Bool.{Bool, true, false}
 use mathlib.Core.List.{List, _∷_}
 use lib.ListN.{length, getD, drop}
 use Rattle.bits.specs.Word.{word}
-use Rattle.rules.specs.declared.Refusal.{Refusal}
+use Rattle.definitions.specs.declared.Refusal.{Refusal}
 use Rattle.rules.specs.declared.ends.Read.{Read}
 use Rattle.rules.specs.declared.ends.Read.the-variants.{Ends, Refused}
-use Rattle.rules.specs.declared.counts.Counts.{Counts}
+use Rattle.definitions.specs.declared.counts.Counts.{Counts}
 use Rattle.rules.specs.declared.names.Names.{Names}
 use Rattle.rules.specs.declared.weights.Weighed.{Weighed}
-use Rattle.rules.specs.declared.kinds.Junction.{Junction}
-use Rattle.rules.specs.Definition1.{Formula, prop, Rule}
-use Rattle.rules.specs.Definition2.{letterCount, lastProposition, joined, holds}
+use Rattle.definitions.specs.declared.kinds.Junction.{Junction}
+use Rattle.definitions.specs.Definition1.{Formula, prop, Rule}
+use Rattle.definitions.specs.Definition2.{letterCount, lastProposition, joined, holds}
 use Rattle.rules.specs.Weight.{weightOf, countedTo}
 use Rattle.rules.specs.Named.{propositionCount, formulaNames, usesOf}
-use Rattle.rules.specs.Refusals.{number, place}
-use Rattle.rules.specs.Encoding.{CountsFit}
+use Rattle.definitions.specs.Refusals.{number, place}
+use Rattle.definitions.specs.Encoding.{CountsFit}
 use Rattle.rules.specs.Reading.{Outcome, fault, Need, rule, formula, body, counts, Value, Rest, scan}
 use Rattle.rules.specs.Places.{FormulaAt, RuleAt}
 
@@ -49,11 +49,6 @@ RuleRead s at (Refused x) = Fails s at rule x
 abbrev pub endOf : Read → ℕ
 endOf (Ends e) = e
 endOf (Refused x) = 0
-
--- the counts after the kind byte at `at`
-pub record CountsAs (s : List ℕ) (at : ℕ) (c : Counts) : Type 0 where
-  pub low : c .low ≡ getD s (at + 1) 0
-  pub high : c .high ≡ getD s (at + 2) 0
 
 -- the set of the propositions that the formula names, and the end
 abbrev pub NamesAs : List ℕ → ℕ → Names → Type 0

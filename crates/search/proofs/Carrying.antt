@@ -2,8 +2,8 @@
 use Prim.Native.Nat.{ℕ, _/_, _%_}
 use mathlib.Core.Path.{_≡_, refl, sym, subst}
 use mathlib.Core.List.{List}
-use Rattle.rules.specs.Definition1.{Rule}
-use Rattle.rules.specs.Definition2.{Sat}
+use Rattle.definitions.specs.Definition1.{Rule}
+use Rattle.definitions.specs.Definition2.{Sat}
 use Rattle.automata.specs.Table.{Table, Goes}
 use Rattle.models.specs.Model.{Model, Run, spelled}
 use Rattle.models.specs.declared.ModelData.{ModelData}

@@ -13,6 +13,7 @@ ghost use Rattle.search.specs.Answer.{slices, LongEnough};
 ghost use Rattle.search.specs.Input.{InputRight};
 ghost use Rattle.search.specs.inner.Inputs.{InputAnswers};
 use crate::Refusal;
+use automata::TABLE_ENTRIES;
 use lasting::alive::without_dead_ends;
 use models::ModelAnswer;
 use models::ModelData;
@@ -22,7 +23,6 @@ use passes::shape::PAIRS;
 use passes::shape::Sizes;
 use rules::Known;
 use rules::RuleAnswer;
-use automata::TABLE_ENTRIES;
 
 // What reading comes to.
 pub enum InputAnswer {

@@ -2,7 +2,7 @@
 ghost use mathlib.Core.Path.{_≡_};
 ghost use Prim.Native.Nat.{_<_, _≤_};
 ghost use lib.ListN.{length};
-ghost use Rattle.rules.specs.Definition2.{letterCount};
+ghost use Rattle.definitions.specs.Definition2.{letterCount};
 ghost use Rattle.automata.specs.Table.{tableStates, tableEntries};
 ghost use Rattle.steps.specs.Moves.{rowOf, advanced};
 use automata::STATES;

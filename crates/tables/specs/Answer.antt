@@ -4,8 +4,8 @@ use mathlib.Core.Path.{_≡_}
 use mathlib.Core.List.{List}
 use lib.ListN.{length}
 use Rattle.rules.specs.declared.Known.{Known}
-use Rattle.rules.specs.Definition1.{Rule}
-use Rattle.rules.specs.Numbers.{shortSlice}
+use Rattle.definitions.specs.Definition1.{Rule}
+use Rattle.definitions.specs.Numbers.{shortSlice}
 use Rattle.rules.specs.Answer.{answer, AcceptedAs, knownOf}
 use Rattle.tables.specs.declared.TableAnswer.{TableAnswer}
 use Rattle.tables.specs.declared.TableAnswer.the-variants.{Tabled, Refused}

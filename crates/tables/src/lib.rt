@@ -2,21 +2,21 @@
 ghost use mathlib.Core.Path.{_≡_};
 ghost use Prim.Native.Nat.{_≤_};
 ghost use lib.ListN.{length};
-ghost use Rattle.rules.specs.Definition1.{Rule};
+ghost use Rattle.definitions.specs.Definition1.{Rule};
 ghost use Rattle.rules.specs.Answer.{AcceptedAs};
 ghost use Rattle.automata.specs.Table.{tableEntries};
 ghost use Rattle.tables.specs.Refusals.{number, place};
 ghost use Rattle.tables.specs.Answer.{told, BuildRight, TableFor};
 use automata::STATES;
 use automata::TABLE_ENTRIES;
+use definitions::numbers::SHORT_SLICE;
 use rules::Known;
 use rules::RuleAnswer;
-use rules::numbers::SHORT_SLICE;
 
 // Why no table is built.
 pub enum Refusal {
     // the rule's own
-    OfRule(rules::Refusal),
+    OfRule(definitions::Refusal),
     // the slice is too short for a table
     ShortTable,
 }

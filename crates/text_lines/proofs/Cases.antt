@@ -5,7 +5,7 @@ use mathlib.Core.Path.{_≡_, refl, sym, ap, ap₂, subst, _∙_}
 use mathlib.Core.List.{List, [], _∷_, _++_}
 use lib.ListN.{length, take, replicate, length-replicate, length-take}
 use Rattle.rules.specs.declared.Known.{Known}
-use Rattle.rules.specs.Encoding.{spell}
+use Rattle.definitions.specs.Encoding.{spell}
 use Rattle.rules.specs.Answer.{knownOf}
 use Rattle.texts.specs.declared.TextRefusal.{TextRefusal}
 use Rattle.texts.specs.declared.TextAnswer.{TextAnswer}

@@ -5,8 +5,8 @@ use mathlib.Core.List.{List, [], _∷_, _++_, append-nil}
 use lib.ListN.{length, drop}
 use lib.Seq.{drop-cons}
 use borrow.Author.Tests.{ne-eqb}
-use Rattle.rules.specs.Definition1.{prop, yea, nay, neg, join, Rule, empty}
-use Rattle.rules.specs.Encoding.{spellF}
+use Rattle.definitions.specs.Definition1.{prop, yea, nay, neg, join, Rule, empty}
+use Rattle.definitions.specs.Encoding.{spellF}
 use Rattle.text_reader.specs.declared.reader.Taken.{Taken}
 use Rattle.grammar.specs.Text.{formulaText}
 use Rattle.grammar.specs.inner.Reading.{Need, rule, formula, digit, junction, tail, occurrence, sign, Rest, row, closed, standing, rows, scan}

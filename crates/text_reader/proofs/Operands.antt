@@ -4,11 +4,11 @@ use native.Mathlib.Omega.{arith}
 use mathlib.Core.Path.{_≡_, refl, sym, ap, subst, _∙_}
 use mathlib.Core.List.{List, [], _∷_, _++_, append-assoc}
 use lib.ListN.{length, drop, length-append}
-use Rattle.rules.specs.declared.kinds.Junction.{Junction}
-use Rattle.rules.specs.declared.kinds.Junction.the-variants.{And, Or}
-use Rattle.rules.specs.declared.kinds.Pair.{Pair}
-use Rattle.rules.specs.Definition1.{Formula, Rule}
-use Rattle.rules.specs.Encoding.{junctionByte, pairByte, spellF}
+use Rattle.definitions.specs.declared.kinds.Junction.{Junction}
+use Rattle.definitions.specs.declared.kinds.Junction.the-variants.{And, Or}
+use Rattle.definitions.specs.declared.kinds.Pair.{Pair}
+use Rattle.definitions.specs.Definition1.{Formula, Rule}
+use Rattle.definitions.specs.Encoding.{junctionByte, pairByte, spellF}
 use Rattle.grammar.specs.declared.signs.Headed.{Headed}
 use Rattle.grammar.specs.declared.signs.Headed.the-variants as headed
 use Rattle.grammar.specs.declared.signs.Sign.{Sign}

@@ -9,14 +9,14 @@ use lib.Dec.{eqb}
 use lib.ListN.{length, getD, take, drop, set, length-set}
 use lib.Seq.{take-suc, take-suc-set, drop-cons, drop-set-lt}
 use borrow.Author.Tests.{eq-eqb, ne-eqb}
-use Rattle.rules.specs.declared.kinds.Junction.{Junction}
-use Rattle.rules.specs.declared.kinds.Junction.the-variants.{And, Or}
-use Rattle.rules.specs.declared.kinds.Pair.{Pair}
-use Rattle.rules.specs.declared.kinds.Pair.the-variants.{Then, Overlap, Either, Within, Both}
-use Rattle.rules.specs.declared.kinds.Repeat.{Repeat}
-use Rattle.rules.specs.declared.kinds.Repeat.the-variants.{Star, Plus}
-use Rattle.rules.specs.Definition1.{Formula, prop, yea, nay, neg, join, Rule, letter, empty, two, again, counted, occurs}
-use Rattle.rules.specs.Encoding.{junctionByte, pairByte, repeatByte, CountsFit, SmallF, Small, spellF, spell}
+use Rattle.definitions.specs.declared.kinds.Junction.{Junction}
+use Rattle.definitions.specs.declared.kinds.Junction.the-variants.{And, Or}
+use Rattle.definitions.specs.declared.kinds.Pair.{Pair}
+use Rattle.definitions.specs.declared.kinds.Pair.the-variants.{Then, Overlap, Either, Within, Both}
+use Rattle.definitions.specs.declared.kinds.Repeat.{Repeat}
+use Rattle.definitions.specs.declared.kinds.Repeat.the-variants.{Star, Plus}
+use Rattle.definitions.specs.Definition1.{Formula, prop, yea, nay, neg, join, Rule, letter, empty, two, again, counted, occurs}
+use Rattle.definitions.specs.Encoding.{junctionByte, pairByte, repeatByte, CountsFit, SmallF, Small, spellF, spell}
 use Rattle.grammar.specs.inner.Wide.{filler, plainHead, wide, squeezed}
 
 squeezed-both : (s t : List ℕ) → squeezed (s ++ t) ≡ squeezed s ++ squeezed t

@@ -4,8 +4,8 @@ use native.Mathlib.Omega.{arith}
 use mathlib.Core.Path.{_≡_, refl, sym, ap, subst, _∙_}
 use mathlib.Core.List.{List, [], _∷_, _++_}
 use lib.ListN.{length, getD}
-use Rattle.rules.specs.Definition1.{prop}
-use Rattle.rules.specs.Encoding.{spellF}
+use Rattle.definitions.specs.Definition1.{prop}
+use Rattle.definitions.specs.Encoding.{spellF}
 use Rattle.text_reader.specs.declared.reader.Taken.{Taken}
 use Rattle.text_reader.specs.declared.reader.Taken.the-variants.{Upto, Broken}
 use Rattle.grammar.specs.inner.Reading.{Need, digit, sign, Value, Values, Row, rows, broken}

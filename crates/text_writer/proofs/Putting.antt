@@ -4,18 +4,18 @@ use native.Mathlib.Omega.{arith}
 use mathlib.Core.Path.{_≡_, sym, ap₂, subst, _∙_}
 use mathlib.Core.List.{List, [], _∷_, _++_}
 use lib.ListN.{length, getD, length-append}
-use Rattle.rules.specs.declared.kinds.Junction.{Junction}
-use Rattle.rules.specs.declared.kinds.FormulaKind.the-variants.{Proposition, Truth, Falsity, Not, Join}
-use Rattle.rules.specs.declared.kinds.Pair.{Pair}
-use Rattle.rules.specs.declared.kinds.Repeat.{Repeat}
-use Rattle.rules.specs.declared.kinds.RuleKind.the-variants.{Letter, Empty, Two, Again, Counted, Occurs}
-use Rattle.rules.specs.declared.kinds.Kind.the-variants.{OfFormula, OfRule}
-use Rattle.rules.specs.Definition1.{Formula, yea, nay, Rule, empty, counted, occurs}
-use Rattle.rules.specs.Encoding.{CountsFit}
-use Rattle.rules.specs.Kinds.{kindOf}
+use Rattle.definitions.specs.declared.kinds.Junction.{Junction}
+use Rattle.definitions.specs.declared.kinds.FormulaKind.the-variants.{Proposition, Truth, Falsity, Not, Join}
+use Rattle.definitions.specs.declared.kinds.Pair.{Pair}
+use Rattle.definitions.specs.declared.kinds.Repeat.{Repeat}
+use Rattle.definitions.specs.declared.kinds.RuleKind.the-variants.{Letter, Empty, Two, Again, Counted, Occurs}
+use Rattle.definitions.specs.declared.kinds.Kind.the-variants.{OfFormula, OfRule}
+use Rattle.definitions.specs.Definition1.{Formula, yea, nay, Rule, empty, counted, occurs}
+use Rattle.definitions.specs.Encoding.{CountsFit}
+use Rattle.definitions.specs.Kinds.{kindOf}
 use Rattle.rules.specs.Places.{FormulaAt, a-prop, a-yea, a-nay, a-neg, a-join, RuleAt, a-letter, a-empty, a-two, a-again, a-counted, an-occurs, HasCounts, GoodFormula, GoodRule}
-use Rattle.rules.specs.declared.counts.Counts.{Counts}
-use Rattle.rules.specs.Walks.{CountsAs}
+use Rattle.definitions.specs.declared.counts.Counts.{Counts}
+use Rattle.definitions.specs.Encoding.{CountsAs}
 use Rattle.rules.proofs.Scan.{formula-ends, rule-ends}
 use Rattle.rules.proofs.PlacesOnce.{formula-of, rule-of}
 use Rattle.text_writer.specs.declared.writer.Put.{Put}

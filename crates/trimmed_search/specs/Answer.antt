@@ -1,7 +1,7 @@
 -- What a search over the trimmed table comes to, for every rule, every model and every four slices. Assumes nothing: these are definitions.
 use Prim.Native.Nat.{ℕ}
 use mathlib.Core.List.{List}
-use Rattle.rules.specs.Definition1.{Rule}
+use Rattle.definitions.specs.Definition1.{Rule}
 use Rattle.rules.specs.Weight.{weightOf}
 use Rattle.rules.specs.Answer.{AcceptedAs, knownOf}
 use Rattle.automata.specs.Table.{tableOf}

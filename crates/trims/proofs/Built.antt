@@ -4,7 +4,7 @@ use native.Mathlib.Omega.{arith}
 use mathlib.Core.Logic.{_≢_, inl, inr, ⊎-elim}
 use mathlib.Core.List.{List}
 use Rattle.bits.proofs.Laws.{lt-or-ge}
-use Rattle.rules.specs.Definition1.{Rule}
+use Rattle.definitions.specs.Definition1.{Rule}
 use Rattle.rules.specs.Weight.{weightOf}
 use Rattle.rules.proofs.Weighing.{weight-pos}
 use Rattle.automata.specs.Table.{tableStates, cell, tableOf}

@@ -9,7 +9,7 @@ use Rattle.bits.specs.Word.{bit}
 use Rattle.bits.proofs.Laws.{bit-zero}
 use Rattle.bits.proofs.Truths.{false-no}
 use Rattle.bits.proofs.Ranks.{rank-le}
-use Rattle.rules.specs.Definition1.{Rule}
+use Rattle.definitions.specs.Definition1.{Rule}
 use Rattle.automata.specs.Table.{tableStates, Table, cell, tableOf, Goes, Accepts}
 use Rattle.automata.specs.Promise.{Serves}
 use Rattle.automata.proofs.TableOf.{edge-out, edge-in, final-out, final-in}

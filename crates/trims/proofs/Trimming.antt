@@ -11,7 +11,7 @@ use lib.ListN.{getD, length}
 use borrow.Author.Tests.{not-true, not-false}
 use Rattle.bits.specs.Word.{bit, word, many}
 use Rattle.bits.proofs.Laws.{bit-word, bit-above, word-lt, lt-or-ge}
-use Rattle.rules.specs.Numbers.{shortSlice, noTable}
+use Rattle.definitions.specs.Numbers.{shortSlice, noTable}
 use Rattle.automata.specs.Table.{tableStates, tableEntries, cell}
 use Rattle.automata.specs.inner.Cells.{In, Put}
 use Rattle.tables.specs.Beyond.{Beyond}

@@ -7,10 +7,10 @@ ghost use Rattle.trims.specs.Stands.{Stands};
 ghost use Rattle.trims.specs.Trimmed.{Trimmed};
 ghost use Rattle.trims.specs.Refusals.{number, place};
 ghost use Rattle.trims.specs.Answer.{told, TrimRight};
-use rules::numbers::NO_TABLE;
-use rules::numbers::SHORT_SLICE;
 use automata::STATES;
 use automata::TABLE_ENTRIES;
+use definitions::numbers::NO_TABLE;
+use definitions::numbers::SHORT_SLICE;
 
 mod outside; // what refusal 24 looks for
 mod grow; // the states that labels lead to

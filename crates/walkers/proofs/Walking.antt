@@ -10,8 +10,8 @@ use lib.ListN.{length}
 use borrow.Author.Tests.{lt-ltb, le-ltb}
 use Rattle.bits.specs.Word.{bit}
 use Rattle.bits.proofs.Truths.{true-T, T-true}
-use Rattle.rules.specs.Definition1.{Rule}
-use Rattle.rules.specs.Definition2.{letterCount, Sat}
+use Rattle.definitions.specs.Definition1.{Rule}
+use Rattle.definitions.specs.Definition2.{letterCount, Sat}
 use Rattle.automata.specs.Table.{tableStates, tableEntries, tableOf}
 use Rattle.automata.specs.Promise.{Letters, Serves}
 use Rattle.steps.specs.Moves.{advanced, meets, walked}

@@ -5,8 +5,8 @@ use mathlib.Core.List.{List}
 use lib.Dec.{ltb}
 use lib.ListN.{length}
 use Rattle.bits.specs.Word.{bit}
-use Rattle.rules.specs.Definition2.{letterCount}
-use Rattle.rules.specs.Numbers.{shortSlice, badLetter, fullCount}
+use Rattle.definitions.specs.Definition2.{letterCount}
+use Rattle.definitions.specs.Numbers.{shortSlice, badLetter, fullCount}
 use Rattle.automata.specs.Table.{tableEntries}
 use Rattle.steps.specs.Moves.{advanced, meets}
 use Rattle.walkers.specs.declared.Walker.{Walker}

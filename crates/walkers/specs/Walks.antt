@@ -6,9 +6,9 @@ use mathlib.Core.Logic.{_↔_}
 use mathlib.Core.List.{List, [], _∷_}
 use lib.Dec.{ltb}
 use lib.ListN.{length}
-use Rattle.rules.specs.Definition1.{Rule}
-use Rattle.rules.specs.Definition2.{letterCount, Sat}
-use Rattle.rules.specs.Numbers.{shortSlice, badLetter}
+use Rattle.definitions.specs.Definition1.{Rule}
+use Rattle.definitions.specs.Definition2.{letterCount, Sat}
+use Rattle.definitions.specs.Numbers.{shortSlice, badLetter}
 use Rattle.walkers.specs.declared.Walker.{Walker}
 use Rattle.walkers.specs.declared.FollowAnswer.{FollowAnswer}
 use Rattle.walkers.specs.declared.FollowAnswer.the-variants.{Ended, Refused}

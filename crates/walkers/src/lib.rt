@@ -4,12 +4,12 @@ ghost use Prim.Native.Nat.{_<_};
 ghost use Rattle.walkers.specs.Refusals.{number, place};
 ghost use Rattle.walkers.specs.Steps.{largestCount, walkerAt, startOf, refusedAs, ledTo, given, told, stepOf};
 ghost use Rattle.walkers.specs.Walks.{followOf, ending, Follows};
-use formulas::LETTER_COUNT;
-use rules::numbers::BAD_LETTER;
-use rules::numbers::FULL_COUNT;
-use rules::numbers::SHORT_SLICE;
-use steps::advance;
 use automata::TABLE_ENTRIES;
+use definitions::numbers::BAD_LETTER;
+use definitions::numbers::FULL_COUNT;
+use definitions::numbers::SHORT_SLICE;
+use formulas::LETTER_COUNT;
+use steps::advance;
 
 // A letter is below this.
 const LETTERS: u8 = LETTER_COUNT as u8;

@@ -6,12 +6,12 @@ use mathlib.Core.Path.{_≡_, refl, ap, ap₂, _∙_}
 use mathlib.Core.Logic.{_⊎_, ⊎-map, _↔_}
 use mathlib.Core.Bool.{Bool}
 use mathlib.Core.List.{List, [], _∷_, cons≢nil}
-use Rattle.rules.specs.declared.kinds.Pair.the-variants.{Then, Overlap, Either, Within, Both}
-use Rattle.rules.specs.declared.kinds.Repeat.the-variants.{Star, Plus}
-use Rattle.rules.specs.Definition1.{Rule, letter, empty, two, again, counted, occurs, yea}
-use Rattle.rules.specs.Definition2.{holds, Sat, OneLetter, Begins, Repeats, none, more}
+use Rattle.definitions.specs.declared.kinds.Pair.the-variants.{Then, Overlap, Either, Within, Both}
+use Rattle.definitions.specs.declared.kinds.Repeat.the-variants.{Star, Plus}
+use Rattle.definitions.specs.Definition1.{Rule, letter, empty, two, again, counted, occurs, yea}
+use Rattle.definitions.specs.Definition2.{holds, Sat, OneLetter, Begins, Repeats, none, more}
 use Rattle.rules.specs.Weight.{weightOf, rowWeight}
-use Rattle.rules.proofs.Maps.{map-parts, map-overlaps, map-repeats, map-begins, map-counted}
+use Rattle.definitions.proofs.Maps.{map-parts, map-overlaps, map-repeats, map-begins, map-counted}
 use Rattle.automata.specs.Auto.{Auto, Takes}
 use Rattle.automata.specs.Build.{auto, emptyA, letterA, the-label, thenA, bothA, anyA, withinA}
 use Rattle.automata.proofs.language.Lang.{Acc, takes-acc, Good, good-empty, good-letter}

@@ -6,7 +6,7 @@ use mathlib.Core.Logic.{_↔_}
 use mathlib.Core.Bool.{Bool, true, false, not, cond}
 use mathlib.Core.List.{List, [], _∷_}
 use lib.Dec.{T}
-use Rattle.rules.specs.Definition2.{satisfying, CountedLetters}
+use Rattle.definitions.specs.Definition2.{satisfying, CountedLetters}
 use Rattle.automata.specs.Build.{Satisfied, at-first, so-far, OccursStep, OccursFinal, enough, occursA}
 use Rattle.automata.proofs.language.Lang.{Acc, Edge, Good}
 

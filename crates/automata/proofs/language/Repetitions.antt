@@ -4,7 +4,7 @@ use native.Mathlib.Omega.{arith}
 use mathlib.Core.Path.{_≡_, refl, ap}
 use mathlib.Core.Logic.{_⊎_, inl, inr, _≢_, _↔_}
 use mathlib.Core.List.{List, [], _∷_, _++_, cons≢nil}
-use Rattle.rules.specs.Definition2.{Parts, Repeats, none, more}
+use Rattle.definitions.specs.Definition2.{Parts, Repeats, none, more}
 use Rattle.automata.specs.Auto.{Auto}
 use Rattle.automata.specs.Build.{PlusStep, plusA, optA, starA}
 use Rattle.automata.proofs.language.Lang.{Acc, Edge, Good}

@@ -5,10 +5,10 @@ use native.Mathlib.Nat.{suc-mul}
 use mathlib.Core.Path.{_≡_, refl, sym}
 use mathlib.Core.Logic.{_⊎_, inl, inr, _↔_}
 use mathlib.Core.List.{List, [], _∷_, append-nil, cons≢nil}
-use Rattle.rules.specs.Definition2.{CountedParts}
+use Rattle.definitions.specs.Definition2.{CountedParts}
 use Rattle.rules.specs.Weight.{rowWeight}
-use Rattle.rules.proofs.Maps.{map-parts}
-use Rattle.rules.proofs.PartsInARow.{OnePartMore, none-counted, part-counted, counted-parts, none-at-all}
+use Rattle.definitions.proofs.Maps.{map-parts}
+use Rattle.definitions.proofs.PartsInARow.{OnePartMore, none-counted, part-counted, counted-parts, none-at-all}
 use Rattle.automata.specs.Auto.{Auto}
 use Rattle.automata.specs.Build.{thenA, maybeA, noneA, lastA, rowA}
 use Rattle.automata.proofs.language.Lang.{Acc, Good}

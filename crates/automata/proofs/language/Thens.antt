@@ -4,7 +4,7 @@ use native.Mathlib.Omega.{arith}
 use mathlib.Core.Path.{_≡_, refl, ap}
 use mathlib.Core.Logic.{_↔_}
 use mathlib.Core.List.{List, [], _∷_, _++_}
-use Rattle.rules.specs.Definition2.{Parts}
+use Rattle.definitions.specs.Definition2.{Parts}
 use Rattle.automata.specs.Auto.{Auto}
 use Rattle.automata.specs.Build.{Up, UpF, ThenStep, ThenFinal, thenA}
 use Rattle.automata.proofs.language.Lang.{Acc, Edge, Good, up-edge, copy-in, copy-out}

@@ -5,10 +5,10 @@ use mathlib.Core.Logic.{_↔_}
 use mathlib.Core.List.{List}
 use lib.Dec.{T}
 use Rattle.bits.specs.Word.{bit}
-use Rattle.rules.specs.declared.kinds.Pair.the-variants.{Then, Either, Both}
-use Rattle.rules.specs.declared.kinds.Repeat.the-variants.{Star}
-use Rattle.rules.specs.Definition1.{Rule, letter, two, again, yea}
-use Rattle.rules.specs.Definition2.{letterCount}
+use Rattle.definitions.specs.declared.kinds.Pair.the-variants.{Then, Either, Both}
+use Rattle.definitions.specs.declared.kinds.Repeat.the-variants.{Star}
+use Rattle.definitions.specs.Definition1.{Rule, letter, two, again, yea}
+use Rattle.definitions.specs.Definition2.{letterCount}
 use Rattle.rules.specs.Weight.{weightOf}
 use Rattle.automata.specs.Table.{tableStates, cell}
 use Rattle.automata.specs.Build.{UpF, auto}

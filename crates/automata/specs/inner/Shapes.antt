@@ -2,8 +2,8 @@
 use Prim.Native.Nat.{ℕ, _+_, _*_, _≤_}
 use mathlib.Core.Path.{_≡_}
 use mathlib.Core.List.{List}
-use Rattle.rules.specs.declared.counts.Counts.{Counts}
-use Rattle.rules.specs.Definition1.{Rule}
+use Rattle.definitions.specs.declared.counts.Counts.{Counts}
+use Rattle.definitions.specs.Definition1.{Rule}
 use Rattle.rules.specs.Places.{RuleAt}
 use Rattle.rules.specs.Weight.{weightOf, weightLimit}
 use Rattle.automata.specs.declared.shape.Shape.{Shape}

@@ -4,9 +4,9 @@ use mathlib.Core.Logic.{⊎-elim}
 use mathlib.Core.Path.{_≡_, sym, ap, _∙_}
 use native.Mathlib.Omega.{arith}
 use lib.ListN.{length, getD}
-use Rattle.rules.specs.declared.kinds.FormulaKind.the-variants.{Proposition, Truth, Falsity, Not, Join}
-use Rattle.rules.specs.declared.kinds.Kind.the-variants.{OfFormula}
-use Rattle.rules.specs.Kinds.{kindOf}
+use Rattle.definitions.specs.declared.kinds.FormulaKind.the-variants.{Proposition, Truth, Falsity, Not, Join}
+use Rattle.definitions.specs.declared.kinds.Kind.the-variants.{OfFormula}
+use Rattle.definitions.specs.Kinds.{kindOf}
 use Rattle.rules.proofs.Walks.{formula-here, is-formula, good-body, good-neg, good-left, good-right}
 use Rattle.formulas.proofs.Evaluating.{h-prop, h-yea, h-nay, h-neg, h-join}
 use borrow.Author.Needs.{needs}
@@ -18,7 +18,7 @@ use Rattle.formulas.proofs.holds_at.Kinds as holds-at-kinds
 use Rattle.formulas.proofs.+holds_at.Lts-holds_at as holds-at-lts
 use Rattle.bits.proofs.has.Reads as has-reads
 use Rattle.formulas.proofs.join.Reads as join-reads
-use Rattle.rules.proofs.kinds.kind_of.Reads as kind-of-reads
+use Rattle.definitions.proofs.kinds.kind_of.Reads as kind-of-reads
 use Rattle.formulas.proofs.+holds_at.{statement}
 use Rattle.formulas.proofs.+holds_at.Tie.{close}
 

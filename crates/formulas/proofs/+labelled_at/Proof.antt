@@ -4,9 +4,9 @@ use mathlib.Core.Logic.{⊎-elim}
 use mathlib.Core.Path.{_≡_, refl, sym, ap, _∙_}
 use native.Mathlib.Omega.{arith}
 use lib.ListN.{length, getD}
-use Rattle.rules.specs.declared.kinds.FormulaKind.the-variants.{Proposition, Truth, Falsity, Not, Join}
-use Rattle.rules.specs.declared.kinds.Kind.the-variants.{OfFormula}
-use Rattle.rules.specs.Kinds.{kindOf}
+use Rattle.definitions.specs.declared.kinds.FormulaKind.the-variants.{Proposition, Truth, Falsity, Not, Join}
+use Rattle.definitions.specs.declared.kinds.Kind.the-variants.{OfFormula}
+use Rattle.definitions.specs.Kinds.{kindOf}
 use Rattle.rules.proofs.Walks.{formula-here, is-formula, good-body, good-neg, good-left, good-right}
 use Rattle.formulas.proofs.Labelling.{l-prop, l-yea, l-nay, l-neg, l-join}
 use borrow.Author.Needs.{needs}
@@ -18,7 +18,7 @@ use Rattle.formulas.proofs.+labelled_at.Lts-labelled_at as labelled-at-
 use Rattle.formulas.proofs.join_labels.Reads as join-labels-reads
 use Rattle.formulas.proofs.past_nots.Reads as past-nots-reads
 use Rattle.formulas.proofs.flip.Reads as flip-reads
-use Rattle.rules.proofs.kinds.kind_of.Reads as kind-of-reads
+use Rattle.definitions.proofs.kinds.kind_of.Reads as kind-of-reads
 use Rattle.formulas.proofs.+labelled_at.{statement}
 use Rattle.formulas.proofs.+labelled_at.Tie.{close}
 

@@ -2,7 +2,7 @@
 use mathlib.Core.Path.{refl}
 use borrow.Author.Needs.{needs}
 use Rattle.bits.specs.Word.{bit, word}
-use Rattle.rules.specs.Definition2.{holds}
+use Rattle.definitions.specs.Definition2.{holds}
 use Rattle.formulas.proofs.Labelling.{labelsFrom, is-table}
 use Rattle.formulas.proofs.label_and_end.Statement.{statement}
 use Rattle.formulas.proofs.label_and_end.Tie as tie

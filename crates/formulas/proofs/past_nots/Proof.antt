@@ -5,9 +5,9 @@ use mathlib.Core.Bool.{Bool}
 use mathlib.Core.List.{List}
 use native.Mathlib.Omega.{arith}
 use lib.ListN.{length, getD}
-use Rattle.rules.specs.declared.kinds.FormulaKind.the-variants.{Not}
-use Rattle.rules.specs.declared.kinds.Kind.the-variants.{OfFormula}
-use Rattle.rules.specs.Kinds.{kindOf}
+use Rattle.definitions.specs.declared.kinds.FormulaKind.the-variants.{Not}
+use Rattle.definitions.specs.declared.kinds.Kind.the-variants.{OfFormula}
+use Rattle.definitions.specs.Kinds.{kindOf}
 use Rattle.rules.specs.Places.{GoodFormula}
 use Rattle.formulas.specs.Labels.{NotsTo}
 use Rattle.rules.proofs.Walks.{formula-here}

@@ -4,9 +4,9 @@ use Prim.Native.Nat.{ℕ, _+_, _-_, _<_, _≤_}
 use mathlib.Core.Path.{_≡_}
 use mathlib.Core.List.{List, [], _∷_, _++_}
 use lib.ListN.{length, getD, drop}
-use Rattle.rules.specs.declared.kinds.Junction.{Junction}
-use Rattle.rules.specs.declared.kinds.Pair.{Pair}
-use Rattle.rules.specs.Encoding.{largestCount, pairByte, junctionByte}
+use Rattle.definitions.specs.declared.kinds.Junction.{Junction}
+use Rattle.definitions.specs.declared.kinds.Pair.{Pair}
+use Rattle.definitions.specs.Encoding.{largestCount, pairByte, junctionByte}
 use Rattle.grammar.specs.declared.words.Ended.{Ended}
 use Rattle.grammar.specs.declared.words.Ended.the-variants as ended
 use Rattle.grammar.specs.declared.counts.Number.{Number}

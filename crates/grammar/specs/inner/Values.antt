@@ -3,8 +3,8 @@ use Prim.Native.Nat.{ℕ, _+_, _≤_}
 use mathlib.Core.Path.{_≡_}
 use mathlib.Core.List.{List, [], _∷_, _++_}
 use lib.ListN.{drop}
-use Rattle.rules.specs.Definition2.{lastProposition}
-use Rattle.rules.specs.Encoding.{largestCount, CountsFit, SmallF, Small}
+use Rattle.definitions.specs.Definition2.{lastProposition}
+use Rattle.definitions.specs.Encoding.{largestCount, CountsFit, SmallF, Small}
 use Rattle.writing.specs.Decimal.{decimal}
 use Rattle.grammar.specs.Text.{digitChar, junctionChar, pairSign, countsText, formulaText, text}
 use Rattle.grammar.specs.inner.Reading.{Which, low, high, Digits, all, rest, Need, rule, formula, digit, junction, tail, second, bracket, star, occurrence, number, sign, Counts, uncounted, from, Bracket, plus, starred, Tail, pair, repeated, Second, within, both, More, Value, Values}

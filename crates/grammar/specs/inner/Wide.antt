@@ -4,8 +4,8 @@ use Prim.Native.Nat.{ℕ}
 use mathlib.Core.Bool.{cond}
 use mathlib.Core.List.{List, [], _∷_, _++_}
 use lib.Dec.{eqb}
-use Rattle.rules.specs.Definition1.{Rule, letter, empty, two, again, counted, occurs}
-use Rattle.rules.specs.Encoding.{pairByte, repeatByte, spellF}
+use Rattle.definitions.specs.Definition1.{Rule, letter, empty, two, again, counted, occurs}
+use Rattle.definitions.specs.Encoding.{pairByte, repeatByte, spellF}
 use Rattle.grammar.specs.declared.signs.Head.{Head}
 use Rattle.grammar.specs.inner.Reading.{Counts, uncounted, from, Bracket, plus, starred}
 

@@ -8,7 +8,7 @@ use lib.Dec.{T}
 use lib.ListN.{length, getD}
 use Rattle.bits.specs.Word.{bit}
 use Rattle.bits.specs.Sets.{Below}
-use Rattle.rules.specs.Definition2.{letterCount}
+use Rattle.definitions.specs.Definition2.{letterCount}
 use Rattle.automata.specs.Table.{Table, tableStates, tableOf, Accepts}
 use Rattle.steps.specs.Rows.{Into, Rowed}
 use Rattle.models.specs.Model.{Model, modelStates, Walk, spelled}

@@ -5,7 +5,7 @@ use mathlib.Core.Path.{_≡_, refl, sym, ap, ap₂, subst, _∙_}
 use mathlib.Core.List.{List}
 use lib.ListN.{getD}
 use Rattle.rules.specs.declared.Known.{Known}
-use Rattle.rules.specs.Definition1.{Rule}
+use Rattle.definitions.specs.Definition1.{Rule}
 use Rattle.rules.specs.Answer.{AcceptedAs, knownOf}
 use Rattle.rules.proofs.Accepting.{not-refused, accepted-once}
 use Rattle.rules.proofs.Once.{told-once, handedOn, handed-on}

@@ -5,7 +5,7 @@ use mathlib.Core.Path.{_∙_}
 use mathlib.Core.Logic.{_⊎_, inl, inr, _↔_}
 use mathlib.Core.List.{List}
 use Rattle.bits.proofs.Laws.{lt-or-ge}
-use Rattle.rules.specs.Definition1.{Rule}
+use Rattle.definitions.specs.Definition1.{Rule}
 use Rattle.rules.specs.Weight.{weightOf}
 use Rattle.automata.specs.Table.{tableStates, cell}
 use Rattle.automata.specs.Build.{auto}
@@ -15,7 +15,7 @@ use Rattle.automata.specs.IsTable.{IsTable}
 use Rattle.automata.proofs.Labels.{Has}
 use Rattle.automata.proofs.Serving.{step-inside}
 use Rattle.automata.proofs.Places.{by-none, block-at, final-at}
-use Rattle.rules.specs.Definition2.{letterCount}
+use Rattle.definitions.specs.Definition2.{letterCount}
 
 module _ (t t₁ : List ℕ) (f : ℕ) (r : Rule) (clean : Clean t 0) (small : weightOf r ≤ tableStates) (built : Built t t₁ 0 r) (ends : FinalsAt f 0 r) where
   table-label : (p q x : ℕ) → p < tableStates → q < tableStates → x < letterCount → Has (cell t₁ p q) x ↔ auto r .step p x q

@@ -2,8 +2,8 @@
 use Prim.Native.Nat.{ℕ, _+_, _-_}
 use mathlib.Core.Path.{_≡_}
 use mathlib.Core.List.{List, [], _∷_}
-use Rattle.rules.specs.Definition1.{prop, join}
-use Rattle.rules.specs.Encoding.{spellF}
+use Rattle.definitions.specs.Definition1.{prop, join}
+use Rattle.definitions.specs.Encoding.{spellF}
 use Rattle.grammar.specs.declared.signs.Head.{Head}
 use Rattle.grammar.specs.declared.signs.Headed.{Headed}
 use Rattle.grammar.specs.declared.signs.Headed.the-variants as headed

@@ -2,7 +2,7 @@
 use Prim.Native.Nat.{ℕ}
 use mathlib.Core.Path.{_≡_}
 use mathlib.Core.List.{List}
-use Rattle.rules.specs.Definition1.{Formula, Rule}
+use Rattle.definitions.specs.Definition1.{Formula, Rule}
 use Rattle.rules.specs.Places.{FormulaAt, RuleAt}
 use Rattle.text_writer.specs.declared.writer.Put.{Put}
 use Rattle.grammar.specs.Text.{formulaText, text}

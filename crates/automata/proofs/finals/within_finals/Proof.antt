@@ -2,8 +2,8 @@
 use mathlib.Core.Path.{ap₂}
 use Prim.Native.Nat.{ℕ, _+_, _*_}
 use native.Mathlib.Omega.{arith}
-use Rattle.rules.specs.declared.kinds.Pair.the-variants.{Then, Both}
-use Rattle.rules.specs.Definition1.{two}
+use Rattle.definitions.specs.declared.kinds.Pair.the-variants.{Then, Both}
+use Rattle.definitions.specs.Definition1.{two}
 use Rattle.automata.specs.inner.Block.{anyRule}
 use Rattle.automata.proofs.Ends.{within-finals}
 use Rattle.automata.proofs.FinalSets.{any-set}

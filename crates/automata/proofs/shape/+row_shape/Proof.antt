@@ -8,7 +8,7 @@ use borrow.Fn.PlainCycle.{Measures, is, falls, and}
 use Rattle.automata.proofs.shape.row_shape.Reads as row-shape
 use Rattle.automata.proofs.shape.row_shape.Kinds as row-shape-kinds
 use Rattle.automata.proofs.shape.+row_shape.Lts-row_shape as row-shape-lts
-use Rattle.rules.proofs.counts.after_one.Reads as after-one-reads
+use Rattle.definitions.proofs.counts.after_one.Reads as after-one-reads
 use Rattle.automata.proofs.shape.maybe.Reads as maybe-reads
 use Rattle.automata.proofs.shape.pair_shape.Reads as pair-shape-reads
 use Rattle.automata.proofs.shape.+row_shape.{statement}

@@ -4,9 +4,9 @@ use Prim.Native.Nat.{ℕ, _<_, _-_}
 use mathlib.Core.Path.{_≡_, sym, ap, _∙_}
 use native.Mathlib.Omega.{arith}
 use lib.ListN.{length, getD}
-use Rattle.rules.specs.declared.kinds.RuleKind.the-variants.{Letter, Empty, Two, Again, Counted, Occurs}
-use Rattle.rules.specs.declared.kinds.Kind.the-variants.{OfFormula, OfRule, Unknown}
-use Rattle.rules.specs.Kinds.{kindOf}
+use Rattle.definitions.specs.declared.kinds.RuleKind.the-variants.{Letter, Empty, Two, Again, Counted, Occurs}
+use Rattle.definitions.specs.declared.kinds.Kind.the-variants.{OfFormula, OfRule, Unknown}
+use Rattle.definitions.specs.Kinds.{kindOf}
 use Rattle.rules.proofs.Walks.{rule-here, not-unknown, not-formula, good-letter, has-counts, good-counted, occurs-counts, good-occurs}
 use Rattle.automata.proofs.Shaping.{stands-good, fits-again, fits-first, fits-second, pair-weights, fits-counted, counted-room, occurs-fits, shaped-letter, shaped-empty, shaped-again, shaped-two, shaped-none, shaped-counted, shaped-occurs}
 use Prim.Native.Nat.{ℕ, _<_}
@@ -15,10 +15,10 @@ use borrow.Fn.PlainCycle.{Measures, is, falls, and}
 use Rattle.automata.proofs.shape.shape_at.Reads as shape-at
 use Rattle.automata.proofs.shape.shape_at.Kinds as shape-at-kinds
 use Rattle.automata.proofs.shape.+shape_at.Lts-shape_at as shape-at-lts
-use Rattle.rules.proofs.counts.counts_at.Reads as counts-at-reads
+use Rattle.definitions.proofs.counts.counts_at.Reads as counts-at-reads
 use Rattle.rules.proofs.ends.formula_past.Reads as formula-past-reads
 use Rattle.rules.proofs.ends.rule_past.Reads as rule-past-reads
-use Rattle.rules.proofs.kinds.kind_of.Reads as kind-of-reads
+use Rattle.definitions.proofs.kinds.kind_of.Reads as kind-of-reads
 use Rattle.automata.proofs.shape.again_shape.Reads as again-shape-reads
 use Rattle.automata.proofs.shape.occurs_shape.Reads as occurs-shape-reads
 use Rattle.automata.proofs.shape.pair_shape.Reads as pair-shape-reads

@@ -4,10 +4,10 @@ use Prim.Native.Nat.{ℕ, _+_, _-_, _<_}
 use mathlib.Core.Path.{_≡_, sym, ap, _∙_}
 use native.Mathlib.Omega.{arith}
 use lib.ListN.{length, getD}
-use Rattle.rules.specs.declared.kinds.RuleKind.the-variants.{Letter, Two, Again, Counted, Occurs}
-use Rattle.rules.specs.declared.kinds.Kind.{Kind}
-use Rattle.rules.specs.declared.kinds.Kind.the-variants.{OfRule}
-use Rattle.rules.specs.Kinds.{kindOf}
+use Rattle.definitions.specs.declared.kinds.RuleKind.the-variants.{Letter, Two, Again, Counted, Occurs}
+use Rattle.definitions.specs.declared.kinds.Kind.{Kind}
+use Rattle.definitions.specs.declared.kinds.Kind.the-variants.{OfRule}
+use Rattle.definitions.specs.Kinds.{kindOf}
 use Rattle.rules.specs.Places.{GoodRule}
 use Rattle.rules.proofs.Walks.{rule-here, not-unknown, not-formula, good-letter, has-counts, occurs-counts, good-occurs}
 use Rattle.automata.specs.inner.Shapes.{Fits}
@@ -21,8 +21,8 @@ use Rattle.blocks.proofs.fill.build_at.Reads as build-at
 use Rattle.blocks.proofs.fill.build_at.Kinds as build-at-kinds
 use Rattle.blocks.proofs.fill.+build_at.Lts-build_at as build-at-lts
 use Rattle.formulas.proofs.label_and_end.Reads as label-and-end-reads
-use Rattle.rules.proofs.kinds.kind_of.Reads as kind-of-reads
-use Rattle.rules.proofs.counts.counts_at.Reads as counts-at-reads
+use Rattle.definitions.proofs.kinds.kind_of.Reads as kind-of-reads
+use Rattle.definitions.proofs.counts.counts_at.Reads as counts-at-reads
 use Rattle.automata.proofs.cells.put.Reads as put-reads
 use Rattle.blocks.proofs.fill.join.Reads as join-reads
 use Rattle.blocks.proofs.fill.place_at.Reads as place-at-reads

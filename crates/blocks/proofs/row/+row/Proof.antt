@@ -10,7 +10,7 @@ use Rattle.blocks.proofs.row.row.Kinds as row-kinds
 use Rattle.blocks.proofs.row.+row.Lts-row as row-lts
 use Rattle.blocks.proofs.link.then.Reads as then-reads
 use Rattle.blocks.proofs.row.double.Reads as double-reads
-use Rattle.rules.proofs.counts.after_one.Reads as after-one-reads
+use Rattle.definitions.proofs.counts.after_one.Reads as after-one-reads
 use Rattle.automata.proofs.shape.row_shape.Reads as row-shape-reads
 use Rattle.blocks.proofs.row.+row.{statement}
 use Rattle.blocks.proofs.row.+row.Tie.{close}

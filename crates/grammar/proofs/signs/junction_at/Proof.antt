@@ -1,7 +1,7 @@
 -- `junction_at` tries both junctions. Assumes nothing.
 use mathlib.Core.Path.{refl}
 use borrow.Author.Needs.{needs}
-use Rattle.rules.specs.declared.kinds.Junction.the-variants.{And, Or}
+use Rattle.definitions.specs.declared.kinds.Junction.the-variants.{And, Or}
 use Rattle.grammar.specs.inner.Reading.{junction, rows}
 use Rattle.grammar.specs.inner.Places.{joins, no-junction}
 use Rattle.grammar.proofs.Standing.{absent}

@@ -1,7 +1,7 @@
 -- `sign_at` tries the characters that may follow. Assumes nothing.
 use native.Mathlib.Omega.{arith}
 use mathlib.Core.Path.{refl}
-use Rattle.rules.specs.declared.kinds.Pair.the-variants.{Then, Overlap, Either}
+use Rattle.definitions.specs.declared.kinds.Pair.the-variants.{Then, Overlap, Either}
 use Rattle.grammar.specs.inner.Reading.{tail, rows}
 use Rattle.grammar.specs.inner.Places.{operator, repetition, no-sign}
 use Rattle.grammar.proofs.Standing.{absent}

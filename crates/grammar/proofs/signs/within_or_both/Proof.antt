@@ -1,7 +1,7 @@
 -- `within_or_both` looks for a second character. Assumes nothing.
 use native.Mathlib.Omega.{arith}
 use mathlib.Core.Path.{refl}
-use Rattle.rules.specs.declared.kinds.Pair.the-variants.{Within, Both}
+use Rattle.definitions.specs.declared.kinds.Pair.the-variants.{Within, Both}
 use Rattle.grammar.specs.inner.Places.{operator}
 use Rattle.grammar.proofs.AfterOperand.{op-within, op-both}
 use borrow.Author.Needs.{needs}

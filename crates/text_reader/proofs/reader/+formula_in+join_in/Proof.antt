@@ -3,7 +3,7 @@ use Prim.Native.Nat.{_+_, _-_, _*_}
 use native.Mathlib.Omega.{arith}
 use mathlib.Core.Path.{refl}
 use lib.ListN.{length}
-use Rattle.rules.specs.Encoding.{spellF}
+use Rattle.definitions.specs.Encoding.{spellF}
 use Rattle.grammar.specs.inner.Reading.{formula}
 use Rattle.text_reader.specs.inner.Takings.{broke}
 use Rattle.text_reader.proofs.Taking.{as-upto, as-broken, then-sign}

@@ -4,9 +4,9 @@ use mathlib.Core.Logic.{⊎-elim}
 use mathlib.Core.Path.{_≡_, sym, ap, _∙_}
 use native.Mathlib.Omega.{arith}
 use lib.ListN.{length, getD}
-use Rattle.rules.specs.declared.kinds.FormulaKind.the-variants.{Proposition, Truth, Falsity, Not, Join}
-use Rattle.rules.specs.declared.kinds.Kind.the-variants.{OfFormula}
-use Rattle.rules.specs.Kinds.{kindOf}
+use Rattle.definitions.specs.declared.kinds.FormulaKind.the-variants.{Proposition, Truth, Falsity, Not, Join}
+use Rattle.definitions.specs.declared.kinds.Kind.the-variants.{OfFormula}
+use Rattle.definitions.specs.Kinds.{kindOf}
 use Rattle.rules.proofs.Walks.{formula-here, is-formula, good-body, good-neg, good-left, good-right}
 use Rattle.text_writer.proofs.Putting.{formula-wrote, p-prop, p-yea, p-nay, p-neg, p-join}
 use borrow.Author.Needs.{needs}
@@ -16,7 +16,7 @@ use borrow.Fn.PlainCycle.{Measures, is, falls, and}
 use Rattle.text_writer.proofs.writer.put_formula.Reads as put-formula
 use Rattle.text_writer.proofs.writer.put_formula.Kinds as put-formula-kinds
 use Rattle.text_writer.proofs.writer.+put_formula.Lts-put_formula as put-formula-lts
-use Rattle.rules.proofs.kinds.kind_of.Reads as kind-of-reads
+use Rattle.definitions.proofs.kinds.kind_of.Reads as kind-of-reads
 use Rattle.writing.proofs.put_byte.Reads as put-byte-reads
 use Rattle.writing.proofs.put_word.Reads as put-word-reads
 use Rattle.text_writer.proofs.writer.put_junction.Reads as put-junction-reads

@@ -4,9 +4,9 @@ use mathlib.Core.Logic.{⊎-elim}
 use mathlib.Core.Path.{_≡_, sym, ap, _∙_}
 use native.Mathlib.Omega.{arith}
 use lib.ListN.{length, getD}
-use Rattle.rules.specs.declared.kinds.RuleKind.the-variants.{Letter, Empty, Two, Again, Counted, Occurs}
-use Rattle.rules.specs.declared.kinds.Kind.the-variants.{OfRule}
-use Rattle.rules.specs.Kinds.{kindOf}
+use Rattle.definitions.specs.declared.kinds.RuleKind.the-variants.{Letter, Empty, Two, Again, Counted, Occurs}
+use Rattle.definitions.specs.declared.kinds.Kind.the-variants.{OfRule}
+use Rattle.definitions.specs.Kinds.{kindOf}
 use Rattle.rules.proofs.Walks.{rule-here, is-rule, good-letter, good-again, good-counted, has-counts, good-occurs, occurs-counts, good-first, good-second}
 use Rattle.grammar.proofs.Lengths.{sign-length}
 use Rattle.text_writer.proofs.Putting.{formula-wrote, rule-wrote, p-letter, p-empty, p-two, p-again, p-counted, p-occurs, counts-fit}
@@ -17,8 +17,8 @@ use borrow.Fn.PlainCycle.{Measures, is, falls, and}
 use Rattle.text_writer.proofs.writer.put_rule.Reads as put-rule
 use Rattle.text_writer.proofs.writer.put_rule.Kinds as put-rule-kinds
 use Rattle.text_writer.proofs.writer.+put_rule.Lts-put_rule as put-rule-lts
-use Rattle.rules.proofs.kinds.kind_of.Reads as kind-of-reads
-use Rattle.rules.proofs.counts.counts_at.Reads as counts-at-reads
+use Rattle.definitions.proofs.kinds.kind_of.Reads as kind-of-reads
+use Rattle.definitions.proofs.counts.counts_at.Reads as counts-at-reads
 use Rattle.writing.proofs.put_byte.Reads as put-byte-reads
 use Rattle.writing.proofs.put_word.Reads as put-word-reads
 use Rattle.text_writer.proofs.writer.put_formula.Reads as put-formula-reads

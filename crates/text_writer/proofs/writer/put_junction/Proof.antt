@@ -1,5 +1,5 @@
 -- `put_junction` writes one of two characters. Assumes nothing.
-use Rattle.rules.specs.declared.kinds.Junction.the-variants.{And, Or}
+use Rattle.definitions.specs.declared.kinds.Junction.the-variants.{And, Or}
 use Rattle.text_writer.proofs.Putting.{of-junction}
 use borrow.Author.Needs.{needs}
 use Rattle.text_writer.proofs.writer.put_junction.Statement.{statement}

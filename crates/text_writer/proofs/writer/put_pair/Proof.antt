@@ -1,5 +1,5 @@
 -- `put_pair` writes one of five signs. Assumes nothing.
-use Rattle.rules.specs.declared.kinds.Pair.the-variants.{Then, Overlap, Either, Within, Both}
+use Rattle.definitions.specs.declared.kinds.Pair.the-variants.{Then, Overlap, Either, Within, Both}
 use Rattle.text_writer.proofs.Putting.{of-pair}
 use borrow.Author.Needs.{needs}
 use Rattle.text_writer.proofs.writer.put_pair.Statement.{statement}

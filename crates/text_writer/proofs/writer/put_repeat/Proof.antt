@@ -1,5 +1,5 @@
 -- `put_repeat` writes one of two words. Assumes nothing.
-use Rattle.rules.specs.declared.kinds.Repeat.the-variants.{Star, Plus}
+use Rattle.definitions.specs.declared.kinds.Repeat.the-variants.{Star, Plus}
 use Rattle.text_writer.proofs.Putting.{of-repeat}
 use borrow.Author.Needs.{needs}
 use Rattle.text_writer.proofs.writer.put_repeat.Statement.{statement}

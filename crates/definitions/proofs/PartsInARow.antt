@@ -4,7 +4,7 @@ use native.Mathlib.Omega.{arith}
 use mathlib.Core.Path.{_≡_}
 use mathlib.Core.Logic.{_⊎_, inl, inr}
 use mathlib.Core.List.{List, []}
-use Rattle.rules.specs.Definition2.{Parts, InARow, CountedParts}
+use Rattle.definitions.specs.Definition2.{Parts, InARow, CountedParts}
 
 -- one part, and then those that are left
 abbrev pub OnePartMore : (List ℕ → Type 0) → ℕ → ℕ → List ℕ → Type 0

@@ -2,9 +2,9 @@
 -- Assumes nothing.
 use mathlib.Core.Path.{sym, ap}
 use borrow.Author.Tests.{ne-eqb}
-use Rattle.rules.specs.Kinds.{kindOf}
-use Rattle.rules.proofs.kinds.kind_of.Statement.{statement}
-use Rattle.rules.proofs.kinds.kind_of.Tie as tie
+use Rattle.definitions.specs.Kinds.{kindOf}
+use Rattle.definitions.proofs.kinds.kind_of.Statement.{statement}
+use Rattle.definitions.proofs.kinds.kind_of.Tie as tie
 
 returns : tie.Need-returns
 unfolding kindOf

@@ -1,6 +1,6 @@
 // What a kind byte says: the house form's table of kinds, grouped by what follows the byte.
 ghost use mathlib.Core.Path.{_≡_};
-ghost use Rattle.rules.specs.Kinds.{kindOf};
+ghost use Rattle.definitions.specs.Kinds.{kindOf};
 
 // The connectives of two formulas.
 pub enum Junction {

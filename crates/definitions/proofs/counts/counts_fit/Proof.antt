@@ -3,9 +3,9 @@ use mathlib.Core.Path.{sym, ap}
 use mathlib.Core.Bool.{Bool, _&&_}
 use lib.Dec.{leb}
 use borrow.Author.Tests.{le-leb, lt-leb}
-use Rattle.rules.specs.Encoding.{largestCount}
-use Rattle.rules.proofs.counts.counts_fit.Statement.{statement}
-use Rattle.rules.proofs.counts.counts_fit.Tie as tie
+use Rattle.definitions.specs.Encoding.{largestCount}
+use Rattle.definitions.proofs.counts.counts_fit.Statement.{statement}
+use Rattle.definitions.proofs.counts.counts_fit.Tie as tie
 
 returns : tie.Need-returns
 returns c = sym (ap (λ (b : Bool). b && leb (c .before .args .high) largestCount) (le-leb _ _ (c .if1 .taken)))

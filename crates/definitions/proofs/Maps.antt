@@ -1,7 +1,7 @@
 -- The operators of Definition 2 keep what is carried from one language over to another. Assumes nothing.
 use Prim.Native.Nat.{ℕ, zero, suc}
 use mathlib.Core.List.{List, [], _∷_, _++_}
-use Rattle.rules.specs.Definition2.{Parts, Overlaps, Begins, Repeats, none, more, InARow, CountedParts}
+use Rattle.definitions.specs.Definition2.{Parts, Overlaps, Begins, Repeats, none, more, InARow, CountedParts}
 
 module _ (P P′ Q Q′ : List ℕ → Type 0) (f : (w : List ℕ) → P w → P′ w) (g : (w : List ℕ) → Q w → Q′ w) where
   pub map-parts : (w : List ℕ) → Parts P Q w → Parts P′ Q′ w

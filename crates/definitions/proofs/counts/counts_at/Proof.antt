@@ -2,8 +2,8 @@
 use Prim.Native.Nat.{_+_}
 use native.Mathlib.Omega.{arith}
 use borrow.Author.Needs.{needs}
-use Rattle.rules.proofs.counts.counts_at.Statement.{statement}
-use Rattle.rules.proofs.counts.counts_at.Tie as tie
+use Rattle.definitions.proofs.counts.counts_at.Statement.{statement}
+use Rattle.definitions.proofs.counts.counts_at.Tie as tie
 
 add-t3 : tie.Need-add-t3
 add-t3 c = search needs

@@ -9,11 +9,11 @@ use lib.ListN.{length, length-append}
 use lib.Dec.{T, leb, leb→le, le→leb}
 use Rattle.bits.specs.Word.{any}
 use Rattle.bits.proofs.Truths.{and-T, or-T, any-T}
-use Rattle.rules.specs.declared.kinds.Pair.the-variants.{Then, Overlap, Either, Within, Both}
-use Rattle.rules.specs.declared.kinds.Repeat.the-variants.{Star, Plus}
-use Rattle.rules.specs.Definition1.{Rule, letter, empty, two, again, counted, occurs}
-use Rattle.rules.specs.Definition2.{holds, Sat, OneLetter, Parts, Overlaps, Begins, Repeats, none, more, InARow, CountedParts, satisfying}
-use Rattle.rules.proofs.Maps.{map-parts, map-overlaps, map-repeats, map-begins, map-counted}
+use Rattle.definitions.specs.declared.kinds.Pair.the-variants.{Then, Overlap, Either, Within, Both}
+use Rattle.definitions.specs.declared.kinds.Repeat.the-variants.{Star, Plus}
+use Rattle.definitions.specs.Definition1.{Rule, letter, empty, two, again, counted, occurs}
+use Rattle.definitions.specs.Definition2.{holds, Sat, OneLetter, Parts, Overlaps, Begins, Repeats, none, more, InARow, CountedParts, satisfying}
+use Rattle.definitions.proofs.Maps.{map-parts, map-overlaps, map-repeats, map-begins, map-counted}
 
 -- Q is asked of every rest, P of every beginning
 abbrev pub partsB : (List ℕ → Bool) → (List ℕ → Bool) → List ℕ → Bool

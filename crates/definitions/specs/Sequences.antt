@@ -3,10 +3,10 @@ use Prim.Native.Nat.{ℕ}
 use mathlib.Core.Bool.{Bool, true, false, not}
 use mathlib.Core.List.{List, [], _∷_}
 use lib.Dec.{T}
-use Rattle.rules.specs.declared.kinds.Pair.the-variants.{Then, Overlap, Within, Both}
-use Rattle.rules.specs.declared.kinds.Repeat.the-variants.{Star, Plus}
-use Rattle.rules.specs.Definition1.{prop, Rule, letter, empty, two, again, counted, occurs}
-use Rattle.rules.specs.Definition2.{Sat}
+use Rattle.definitions.specs.declared.kinds.Pair.the-variants.{Then, Overlap, Within, Both}
+use Rattle.definitions.specs.declared.kinds.Repeat.the-variants.{Star, Plus}
+use Rattle.definitions.specs.Definition1.{prop, Rule, letter, empty, two, again, counted, occurs}
+use Rattle.definitions.specs.Definition2.{Sat}
 
 -- a rule, a sequence, and whether the rule accepts it
 pub record Case : Type 0 where

@@ -5,10 +5,10 @@ use mathlib.Core.List.{List, [], _∷_}
 use lib.Dec.{T, T-not}
 use Rattle.bits.specs.Word.{bit, any}
 use Rattle.bits.proofs.Truths.{and-T}
-use Rattle.rules.specs.Definition1.{Rule}
-use Rattle.rules.specs.Definition2.{holds, Sat}
-use Rattle.rules.specs.Sequences.{Case, AllRight, sequences}
-use Rattle.rules.proofs.Deciding.{verdict, verdict-sat, sat-verdict}
+use Rattle.definitions.specs.Definition1.{Rule}
+use Rattle.definitions.specs.Definition2.{holds, Sat}
+use Rattle.definitions.specs.Sequences.{Case, AllRight, sequences}
+use Rattle.definitions.proofs.Deciding.{verdict, verdict-sat, sat-verdict}
 
 agrees : Bool → Bool → Bool
 agrees true b = b

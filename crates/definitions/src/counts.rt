@@ -1,8 +1,8 @@
 // The two counts of a repetition, which follow its kind byte.
 ghost use mathlib.Core.Path.{_≡_};
 ghost use Prim.Native.Nat.{_+_, _-_, _<_, _≤_};
-ghost use Rattle.rules.specs.Encoding.{countsFit};
-ghost use Rattle.rules.specs.Walks.{CountsAs};
+ghost use Rattle.definitions.specs.Encoding.{countsFit};
+ghost use Rattle.definitions.specs.Encoding.{CountsAs};
 
 const LARGEST_COUNT: u8 = 15;
 
