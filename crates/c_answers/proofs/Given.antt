@@ -62,7 +62,7 @@ abbrev pub judgedOf : JudgeAnswer → GcJudged
 judgedOf a = judgedNumbers (judge.told a)
 
 abbrev pub stepOf : GcWalker → Walker → StepAnswer → GcStepped
-stepOf came w a = steppedNumbers came (record { walker = w; says = walkers.outcome a })
+stepOf came w a = steppedNumbers came (record { walker = w; says = walkers.replyOf a })
 
 -- a step that was made: beside what it says stands the walker's numbers
 pub moved-as : (came : GcWalker) (w : Walker) {a : StepAnswer} {b : Bool} → a ≡ Moved b → {v : GcWalker} → v ≡ walkerNumbers w → beside v (movedNumbers (walkers.flag b)) ≡ stepOf came w a

@@ -10,7 +10,7 @@ use Rattle.judge.specs.Verdict as judge
 use Rattle.walkers.specs.declared.Walker.{Walker}
 use Rattle.walkers.specs.Steps as walkers
 use Rattle.lasting.specs.Answer as lasting
-use Rattle.passes.specs.Right.{found, nothing}
+use Rattle.levels.specs.Right.{found, nothing}
 use Rattle.search.specs.Answer as search
 use Rattle.trims.specs.Answer as trims
 use Rattle.texts.specs.Answer as texts
@@ -58,7 +58,7 @@ walkerOf w = walkers.walkerAt (w .set) (w .finals) (w .taken) (w .first) (not (e
 abbrev pub walkerNumbers : Walker → GcWalker
 walkerNumbers w = record { set = w .set; finals = w .finals; taken = w .taken; first = w .first; matched = digit (w .matched) }
 
-abbrev pub movedNumbers : walkers.Outcome → GcMoved
+abbrev pub movedNumbers : walkers.Reply → GcMoved
 movedNumbers (walkers.flag b) = record { refused = 0; place = 0; matches = digit b }
 movedNumbers (walkers.refusal n p) = record { refused = n; place = p; matches = 0 }
 
@@ -71,7 +71,7 @@ abbrev pub beside : GcWalker → GcMoved → GcStepped
 beside w m = record { refused = m .refused; place = m .place; matches = m .matches; walker = w }
 
 -- the walker after the step, or as it came where the step is refused
-abbrev pub leftBy : GcWalker → Walker → walkers.Outcome → GcWalker
+abbrev pub leftBy : GcWalker → Walker → walkers.Reply → GcWalker
 leftBy came w (walkers.flag b) = walkerNumbers w
 leftBy came w (walkers.refusal n p) = came
 

@@ -14,7 +14,7 @@ use Rattle.lasting.specs.declared.LastingAnswer.{LastingAnswer}
 use Rattle.lasting.specs.Endless.{Endless, LastingRun, LastingSet}
 use Rattle.lasting.specs.Alive.{alive}
 use Rattle.lasting.specs.Answer.{Result, lasts, refused, told, LastingRight}
-use Rattle.passes.specs.Right.{Answer, Right}
+use Rattle.levels.specs.Right.{Answer, Right}
 use Rattle.demands.specs.Terms.{IsModel, modelIn}
 
 -- ---- the model without the other states; its states and letters are kept

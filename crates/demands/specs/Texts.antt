@@ -143,5 +143,5 @@ pub record Texts : Type 0 where
   pub one-write : OneWrite
   pub first-bytes-decide : FirstBytesDecide
   pub one-text-line : OneTextLine
-  -- ten strings that are no text, each with the length of the longest beginning that some rule text shares
+  -- eighteen strings that are no text, each with the length of the longest beginning that some rule text shares
   pub places-held : AllShared broken-texts

@@ -19,7 +19,7 @@ use Rattle.trims.specs.Kept.{Kept}
 use Rattle.trims.specs.Answer as trims
 use Rattle.lasting.specs.Endless.{LastingRun}
 use Rattle.search.specs.declared.SearchAnswer.{SearchAnswer}
-use Rattle.passes.specs.Right.{Answer, found, nothing, Matches, Shown, Pairs}
+use Rattle.levels.specs.Right.{Answer, found, nothing, Matches, Shown, Pairs}
 use Rattle.search.specs.Answer.{Slices, LongEnough, Result, answered, refused, told, SearchRight}
 use Rattle.trimmed_search.specs.Answer.{TrimmedFor, TrimmedSearchRight}
 use Rattle.trimmed_search.specs.Alike.{Alike}

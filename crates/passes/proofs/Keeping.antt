@@ -22,14 +22,14 @@ use Rattle.automata.proofs.TableOf.{final-out, final-in}
 use Rattle.steps.specs.Rows.{Rowed}
 use Rattle.steps.proofs.Rowing.{same-place}
 use Rattle.models.specs.Model.{Model, modelStates}
-use Rattle.passes.specs.Lent.{pairCount}
-use Rattle.passes.specs.inner.Passes.{Used, view, Way, onto, Marked, Left, Useful, usefulSets, pairAt}
-use Rattle.passes.specs.inner.Waves.{Queued}
+use Rattle.levels.specs.Lent.{pairCount}
+use Rattle.levels.specs.inner.Passes.{Used, view, Way, onto, Marked, Left, Useful, usefulSets, pairAt}
+use Rattle.levels.specs.inner.Waves.{Queued}
 use Rattle.passes.specs.inner.Uses.{Meets, Keeps, last, early, Settles, build, flat, usefulAt}
-use Rattle.passes.proofs.Level.{ends}
-use Rattle.passes.proofs.SearchInput.{SearchInput, modelFor, tableFor, labelsFor, fair}
-use Rattle.passes.proofs.Useful.{Nearest, nearest, placed}
-use Rattle.passes.proofs.UsedLetters.{used-by}
+use Rattle.levels.proofs.Level.{ends}
+use Rattle.levels.proofs.SearchInput.{SearchInput, modelFor, tableFor, labelsFor, fair}
+use Rattle.levels.proofs.Useful.{Nearest, nearest, placed}
+use Rattle.levels.proofs.UsedLetters.{used-by}
 
 -- ---- the useful pairs as marks
 

@@ -7,14 +7,14 @@ ghost use Rattle.bits.specs.Word.{bit};
 ghost use Rattle.bits.specs.Sets.{Members};
 ghost use Rattle.tables.specs.Beyond.{Beyond};
 ghost use Rattle.automata.specs.Table.{tableEntries};
-ghost use Rattle.passes.specs.Lent.{modelIn, tableIn, pairCount};
-ghost use Rattle.passes.specs.inner.Passes.{Pickable, Picked, PassInput, usefulSets, HasLetter};
+ghost use Rattle.levels.specs.Lent.{modelIn, tableIn, pairCount};
+ghost use Rattle.levels.specs.inner.Passes.{Pickable, Picked, PassInput, usefulSets, HasLetter};
 ghost use Rattle.passes.specs.inner.Uses.{Holds, flat};
-use crate::marks::filter;
-use crate::shape::BEGIN;
-use crate::shape::MODEL_STATES;
-use crate::shape::Sizes;
 use automata::STATES;
+use levels::marks::filter;
+use levels::shape::BEGIN;
+use levels::shape::MODEL_STATES;
+use levels::shape::Sizes;
 use steps::rows::union;
 
 // The table states that are held after state t on the level: those that `held` leads to and that lie on a shortest match.

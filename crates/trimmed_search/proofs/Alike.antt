@@ -10,7 +10,7 @@ use Rattle.models.specs.Model.{Model}
 use Rattle.models.specs.Stored.{modelOf}
 use Rattle.models.specs.Answer as models
 use Rattle.lasting.specs.Endless.{LastingRun}
-use Rattle.passes.specs.Right.{Answer, found, nothing, Right}
+use Rattle.levels.specs.Right.{Answer, found, nothing, Right}
 use Rattle.search.specs.Answer.{Slices, Result, answered, refused, lengthOf, refusal, searched, SearchRight}
 use Rattle.passes.proofs.TableOnce.{shown-same}
 use Rattle.search.proofs.Once.{refused-once, not-searched}

@@ -12,7 +12,7 @@ use Rattle.trims.specs.Answer.{TrimRight, trimmed}
 use Rattle.trims.proofs.Once as trims-once
 use Rattle.models.specs.Model.{Model}
 use Rattle.search.specs.declared.SearchAnswer.{SearchAnswer}
-use Rattle.passes.specs.Right.{Answer}
+use Rattle.levels.specs.Right.{Answer}
 use Rattle.search.specs.Answer.{Slices, LongEnough, told, SearchDone}
 use Rattle.search.proofs.Once.{done-once, one-call-answer}
 use Rattle.trimmed_search.specs.Answer.{TrimmedFor, TrimmedSearches, TrimmedSearchRight}

@@ -21,7 +21,7 @@ use Rattle.lasting.specs.Endless.{LastingRun}
 use Rattle.passes.specs.declared.inner.Searched.{Searched}
 use Rattle.search.specs.declared.input.InputRead.{InputRead}
 use Rattle.search.specs.declared.SearchAnswer.the-variants.{Answered}
-use Rattle.passes.specs.Lent.{LentTable}
+use Rattle.levels.specs.Lent.{LentTable}
 use Rattle.passes.specs.Told.{SearchedTable}
 use Rattle.search.specs.Answer.{Slices, slices, told}
 use Rattle.search.specs.Input.{Usable, InputRight}

@@ -9,7 +9,7 @@ use Rattle.automata.specs.IsTable.{Words}
 use Rattle.tables.specs.Answer.{BuildRight, tabled}
 use Rattle.trims.specs.Answer.{TrimRight, trimmed}
 use Rattle.models.specs.Model.{Model}
-use Rattle.passes.specs.Right.{Answer}
+use Rattle.levels.specs.Right.{Answer}
 use Rattle.search.specs.Answer.{Slices, Result, SearchDone, CallRight}
 
 -- the slice t becomes t′ by building the rule's table and then trimming it, to n states with finals f; it is `built` between the two
