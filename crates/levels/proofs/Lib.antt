@@ -7,6 +7,7 @@ pub mod Pick
 pub mod Steps
 pub mod Rounds
 pub mod Going
+pub mod Answered
 pub mod Places
 pub mod UsedLetters
 pub mod Queueing

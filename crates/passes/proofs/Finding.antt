@@ -17,7 +17,7 @@ use Rattle.levels.specs.Lent.{Cleared, pairCount}
 use Rattle.passes.specs.Told.{RunKept, Answers}
 use Rattle.levels.specs.inner.Passes.{view, Ended, Useful, Pickable, Picked}
 use Rattle.levels.proofs.SearchInput.{SearchInput, modelFor, tableFor, fair}
-use Rattle.passes.proofs.Answered.{left-at-start, right-nothing, right-found, bounded-nothing, bounded-found}
+use Rattle.levels.proofs.Answered.{left-at-start, right-nothing, right-found, bounded-nothing, bounded-found}
 
 module _ (G : SearchInput) where
   abbrev A : Table

@@ -1,6 +1,5 @@
 pub mod TableOnce
 pub mod Choice
-pub mod Answered
 pub mod Picking
 pub mod Finding
 pub mod Keeping
