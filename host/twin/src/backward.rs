@@ -32,7 +32,7 @@ pub(crate) fn backward(
             has(finals, q)
         } else {
             let next = &useful[parity(level + 1)];
-            members(model.successors[state]).any(|t| rows.from(model.letter(t), q) & next[t] != 0)
+            members(model.successors[state]).any(|t| rows[model.letter(t)][q] & next[t] != 0)
         };
         useful[parity(level)][state] |= u64::from(yes) << q;
     }

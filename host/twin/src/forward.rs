@@ -2,8 +2,8 @@
 
 use crate::models::Model;
 use crate::rows::Rows;
-use crate::sets::{below, has, members, union};
-use crate::{Pairs, ENTRIES, STATES};
+use crate::sets::{has, members, union};
+use crate::{Pairs, ENTRIES, FIRST, STATES};
 
 /// How the pass ends: whether a final was met, at which level, and how many pairs are marked.
 pub(crate) struct End {
@@ -15,11 +15,11 @@ pub(crate) struct End {
 /// A set of table states for each model state.
 type Sets = [u64; STATES];
 
-/// A level: its number, the states with pairs on it, and how many pairs are listed with it.
+/// A level: its number, how many pairs are listed with it, and the states with pairs on it.
 struct Level {
     number: u16,
-    fresh: u64,
     count: usize,
+    fresh: u64,
 }
 
 /// What a sweep marks and lists.
@@ -44,74 +44,70 @@ pub(crate) fn forward(
         marks,
         queue,
     };
-    let (mut front, mut after) = ([0; STATES], [0; STATES]);
-    let root = Level {
-        number: 0,
-        fresh: 1,
+    let (mut one, mut other) = ([0; STATES], [0; STATES]);
+    let (mut front, mut after) = (&mut one, &mut other);
+    let mut level = Level {
+        number: 1,
         count: 0,
+        fresh: 0,
     };
-    let mut level = sweep.level(&[model.initial], &[1], &mut front, model.initial, root);
+    sweep.enter(&mut level, model.initial, front, |_| FIRST);
     while level.fresh != 0 {
-        let Level { number, count, .. } = level;
         if members(level.fresh).any(|state| front[state] & finals != 0) {
-            return End {
-                found: true,
-                level: number,
-                count,
-            };
+            return level.end(true);
         }
-        let live = union(&model.successors, level.fresh) & below(model.states);
-        level = sweep.level(&model.successors, &front, &mut after, live, level);
+        let fresh = std::mem::take(&mut level.fresh);
+        let live = union(&model.successors, fresh);
+        level.number += 1;
+        sweep.enter(&mut level, live, after, |t| {
+            gather(&model.successors, front, fresh, t)
+        });
         std::mem::swap(&mut front, &mut after);
     }
-    End {
-        found: false,
-        level: level.number,
-        count: level.count,
+    level.end(false)
+}
+
+impl Level {
+    fn end(&self, found: bool) -> End {
+        End {
+            found,
+            level: self.number,
+            count: self.count,
+        }
     }
 }
 
 impl Sweep<'_> {
-    /// The level after one whose new pairs are the sets in `front`, over the states in `live`.
+    /// A level over the states in `live`, each of which is entered from a set of table states: what is new there is kept,
+    /// marked and listed.
     #[inline]
-    fn level(
+    fn enter(
         &mut self,
-        successors: &[u64],
-        front: &[u64],
-        after: &mut Sets,
+        level: &mut Level,
         live: u64,
-        level: Level,
-    ) -> Level {
-        let number = level.number + 1;
-        let (mut fresh, mut count) = (0, level.count);
+        after: &mut Sets,
+        from: impl Fn(usize) -> u64,
+    ) {
         for t in members(live) {
-            let from = gather(successors, front, level.fresh, t);
-            let reached = self.rows.step(self.model.letter(t), from);
+            let reached = union(&self.rows[self.model.letter(t)], from(t));
             let marks = &mut self.marks[t];
             let new = members(reached)
                 .filter(|&q| marks[q] == 0)
                 .fold(0, |new, q| new | 1 << q);
             after[t] = new;
             for q in members(new) {
-                marks[q] = number;
-                self.queue[count] = (STATES * t + q) as u16;
-                count += 1;
+                marks[q] = level.number;
+                self.queue[level.count] = (STATES * t + q) as u16;
+                level.count += 1;
             }
-            if new != 0 {
-                fresh |= 1 << t;
-            }
-        }
-        Level {
-            number,
-            fresh,
-            count,
+            level.fresh |= u64::from(new != 0) << t;
         }
     }
 }
 
 /// What the states in `fresh` hand to t.
 #[inline]
-fn gather(successors: &[u64], front: &[u64], fresh: u64, t: usize) -> u64 {
+fn gather(successors: &Sets, front: &Sets, fresh: u64, t: usize) -> u64 {
     members(fresh)
         .filter(|&s| has(successors[s], t))
         .fold(0, |set, s| set | front[s])

@@ -36,7 +36,6 @@ pub use refusal::Refusal;
 
 use models::Model;
 use refusal::SHORT_SLICE;
-use rows::Rows;
 use tables::Table;
 
 /// The most states of a table or a model, and the number of letters.
@@ -44,6 +43,9 @@ const STATES: usize = 64;
 
 /// The entries that a search uses of each lent slice.
 const ENTRIES: usize = STATES * STATES;
+
+/// The set of table state 0, in which every run begins.
+const FIRST: u64 = 1;
 
 /// A word for each pair of a model state and a table state, a row for each model state.
 type Pairs = [[u16; STATES]; STATES];
@@ -119,7 +121,8 @@ fn passes(
     queue: &mut [u16; ENTRIES],
     run: &mut [u8; ENTRIES],
 ) -> (Option<usize>, usize) {
-    let rows = Rows::of(table, weight, model.used_letters());
+    let mut rows = [[0; STATES]; STATES];
+    rows::fill(&mut rows, table, weight, model.used_letters());
     marks.as_flattened_mut().fill(0);
     let end = forward::forward(model, &rows, finals, marks, queue);
     let length = end.found.then(|| {

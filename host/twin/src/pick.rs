@@ -4,17 +4,17 @@
 use crate::backward::{parity, Useful};
 use crate::models::Model;
 use crate::rows::Rows;
-use crate::sets::members;
-use crate::Pairs;
+use crate::sets::{members, union};
+use crate::{Pairs, FIRST};
 
 /// Fills the run.
 pub(crate) fn pick(model: &Model, rows: &Rows, marks: &Pairs, useful: &Useful, run: &mut [u8]) {
-    let (mut held, mut next) = (1, model.initial);
+    let (mut held, mut next) = (FIRST, model.initial);
     for (level, place) in (1..).zip(run) {
         let useful = &useful[parity(level)];
         // The table states that are held after state t: those on a shortest match.
         let onward = |t: usize| {
-            let reached = rows.step(model.letter(t), held) & useful[t];
+            let reached = union(&rows[model.letter(t)], held) & useful[t];
             members(reached)
                 .filter(|&q| marks[t][q] == level)
                 .fold(0, |set, q| set | 1 << q)
