@@ -50,16 +50,23 @@ pub fn copy_block(copy: &mut [u64], t: &[u64], from: usize, to: usize, n: usize)
     }
 }
 
-// The label from the pair p to the pair q.
-fn pair_label(copy: &[u64], s: Pairs, p: usize, q: usize) -> u64
-    requires { ⌜ PairsFit s (length (now copy)) × (s .base ≤ p) × (p < s .base + s .m * s .n) × (s .base ≤ q) × (q < s .base + s .m * s .n) ⌝ }
-    ensures { λ r. ⌜ r ≡ paired (now (copy .entry)) (s .base) (s .n) (s .second) p q ⌝ }
+// Row p of the pairs whose first state is j: the label from p's first state to j, met with the row of its second.
+fn product_part(t: &mut [u64], copy: &[u64], s: Pairs, p: usize, j: usize)
+    requires { ⌜ (tableEntries ≤ length (now t)) × PairsFit s (length (now copy)) × (s .base ≤ p) × (p < s .base + s .m * s .n) × (j < s .m) ⌝ }
+    ensures { λ _. ⌜ Put (now (t .entry)) (now (t .exit)) p (p + 1) (s .base + j * s .n) (s .base + j * s .n + s .n) (paired (now (copy .entry)) (s .base) (s .n) (s .second)) ⌝ }
 {
     let n = s.n;
     let second = s.second;
     let i = p - s.base;
-    let j = q - s.base;
-    get(copy, i / n, j / n) & get(copy, second + i % n, second + j % n)
+    let by = get(copy, i / n, j);
+    let row = second + i % n;
+    let lo = s.base + j * n;
+    let mut k: usize = 0;
+    while k < n {
+        let v = by & get(copy, row, second + k);
+        put(t, p, lo + k, v);
+        k += 1;
+    }
 }
 
 // Row p of the pairs.
@@ -67,12 +74,11 @@ fn product_row(t: &mut [u64], copy: &[u64], s: Pairs, p: usize)
     requires { ⌜ (tableEntries ≤ length (now t)) × PairsFit s (length (now copy)) × (s .base ≤ p) × (p < s .base + s .m * s .n) ⌝ }
     ensures { λ _. ⌜ Put (now (t .entry)) (now (t .exit)) p (p + 1) (s .base) (s .base + s .m * s .n) (paired (now (copy .entry)) (s .base) (s .n) (s .second)) ⌝ }
 {
-    let hi = s.base + s.m * s.n;
-    let mut q = s.base;
-    while q < hi {
-        let v = pair_label(copy, s, p, q);
-        put(t, p, q, v);
-        q += 1;
+    let m = s.m;
+    let mut j: usize = 0;
+    while j < m {
+        product_part(t, copy, s, p, j);
+        j += 1;
     }
 }
 

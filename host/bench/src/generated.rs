@@ -9,13 +9,14 @@ const CASES: usize = 1000;
 /// Each call is made so many times, of which the middle one counts.
 const CALLS: usize = 5;
 
-struct Case {
-    rule: Vec<u8>,
-    model: Vec<u8>,
+/// A rule and a model.
+pub struct Case {
+    pub rule: Vec<u8>,
+    pub model: Vec<u8>,
 }
 
 /// Accepted rules, half of them with a model of which some run follows the rule's table, half with any model.
-fn cases(seed: u64) -> Vec<Case> {
+pub fn cases(seed: u64) -> Vec<Case> {
     let mut draws = Draws::new(seed);
     (0..CASES).map(|at| case(&mut draws, at % 2 == 0)).collect()
 }

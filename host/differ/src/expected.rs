@@ -7,20 +7,39 @@ use gongcollar::raw::{
 use gongcollar::{ENTRIES, LINE_BYTES};
 use plain::Refusal;
 
+/// An answer that can be a refusal.
+trait Answer {
+    fn refused(refusal: Refusal) -> Self;
+}
+
+macro_rules! answers {
+    ($($answer:ident),*) => {
+        $(impl Answer for $answer {
+            fn refused(Refusal { number, place }: Refusal) -> $answer {
+                $answer {
+                    refused: number,
+                    place,
+                    ..$answer::default()
+                }
+            }
+        })*
+    };
+}
+
+answers!(Built, Judged, Lasts, Model, Moved, Rule, Searched, Trimmed);
+
+/// The answer of what was found, or the refusal.
+fn told<T, A: Answer>(found: Result<T, Refusal>, answer: impl FnOnce(T) -> A) -> A {
+    found.map_or_else(A::refused, answer)
+}
+
 /// What `read_rule` should answer.
 pub fn read_rule(rule: &[u8]) -> Rule {
-    match plain::read_rule(rule) {
-        Ok(read) => Rule {
-            weight: read.weight,
-            uses: read.rule.names(),
-            ..Rule::default()
-        },
-        Err(Refusal { number, place }) => Rule {
-            refused: number,
-            place,
-            ..Rule::default()
-        },
-    }
+    told(plain::read_rule(rule), |read| Rule {
+        weight: read.weight,
+        uses: read.rule.names(),
+        ..Rule::default()
+    })
 }
 
 /// What stands in a rule; nothing in a refused one.
@@ -30,38 +49,24 @@ pub fn names(rule: &[u8]) -> u64 {
 
 /// What `build` should answer and write.
 pub fn build(rule: &[u8], table: &mut [u64]) -> Built {
-    match plain::build(rule, table.len()) {
-        Ok(built) => {
-            table[..ENTRIES].copy_from_slice(&built.labels);
-            Built {
-                weight: built.weight,
-                finals: built.finals,
-                uses: names(rule),
-                ..Built::default()
-            }
-        }
-        Err(Refusal { number, place }) => Built {
-            refused: number,
-            place,
+    told(plain::build(rule, table.len()), |built| {
+        table[..ENTRIES].copy_from_slice(&built.labels);
+        Built {
+            weight: built.weight,
+            finals: built.finals,
+            uses: names(rule),
             ..Built::default()
-        },
-    }
+        }
+    })
 }
 
 /// What `judge` should answer.
 pub fn judge(rule: &[u8], letters: &[u8]) -> Judged {
-    match plain::judge(rule, letters) {
-        Ok(accepts) => Judged {
-            accepts: accepts.into(),
-            uses: names(rule),
-            ..Judged::default()
-        },
-        Err(Refusal { number, place }) => Judged {
-            refused: number,
-            place,
-            ..Judged::default()
-        },
-    }
+    told(plain::judge(rule, letters), |accepts| Judged {
+        accepts: accepts.into(),
+        uses: names(rule),
+        ..Judged::default()
+    })
 }
 
 /// A walker as the plain library has it: any mark but 0 says that it has matched.
@@ -109,67 +114,39 @@ pub fn step(walker: Walker, table: &[u64], letter: u8) -> Stepped {
 
 /// What `follow` should answer.
 pub fn follow(table: &[u64], finals: u64, letters: &[u8]) -> Moved {
-    match plain::follow(table, finals, letters) {
-        Ok(matches) => Moved {
-            matches: matches.into(),
-            ..Moved::default()
-        },
-        Err(Refusal { number, place }) => Moved {
-            refused: number,
-            place,
-            ..Moved::default()
-        },
-    }
+    told(plain::follow(table, finals, letters), |matches| Moved {
+        matches: matches.into(),
+        ..Moved::default()
+    })
 }
 
 /// What `read_model` should answer.
 pub fn read_model(model: &[u8]) -> Model {
-    match plain::read_model(model) {
-        Ok(read) => Model {
-            states: read.letters.len() as u64,
-            ..Model::default()
-        },
-        Err(Refusal { number, place }) => Model {
-            refused: number,
-            place,
-            ..Model::default()
-        },
-    }
+    told(plain::read_model(model), |read| Model {
+        states: read.letters.len() as u64,
+        ..Model::default()
+    })
 }
 
 /// What `lasting` should answer.
 pub fn lasting(model: &[u8]) -> Lasts {
-    match plain::lasting(model) {
-        Ok(told) => Lasts {
-            states: told.states,
-            lasting: told.set,
-            ..Lasts::default()
-        },
-        Err(Refusal { number, place }) => Lasts {
-            refused: number,
-            place,
-            ..Lasts::default()
-        },
-    }
+    told(plain::lasting(model), |told| Lasts {
+        states: told.states,
+        lasting: told.set,
+        ..Lasts::default()
+    })
 }
 
 /// What `trim` should answer and write.
 pub fn trim(table: &mut [u64], weight: u64, finals: u64) -> Trimmed {
-    match plain::trim(table, weight, finals) {
-        Ok(trimmed) => {
-            table[..ENTRIES].copy_from_slice(&trimmed.labels);
-            Trimmed {
-                weight: trimmed.weight,
-                finals: trimmed.finals,
-                ..Trimmed::default()
-            }
-        }
-        Err(Refusal { number, place }) => Trimmed {
-            refused: number,
-            place,
+    told(plain::trim(table, weight, finals), |trimmed| {
+        table[..ENTRIES].copy_from_slice(&trimmed.labels);
+        Trimmed {
+            weight: trimmed.weight,
+            finals: trimmed.finals,
             ..Trimmed::default()
-        },
-    }
+        }
+    })
 }
 
 /// What `search` should answer and write.
@@ -196,22 +173,15 @@ fn search_as(
     slices: &mut Slices,
     leave: impl FnOnce(&mut [u64]),
 ) -> Searched {
-    match searched {
-        Ok(searched) => {
-            slices.work1[..ENTRIES].fill(0);
-            slices.work2[..ENTRIES].fill(0);
-            leave(&mut slices.table);
-            Searched {
-                uses: names(rule),
-                ..found(searched, &mut slices.run)
-            }
+    told(searched, |searched| {
+        slices.work1[..ENTRIES].fill(0);
+        slices.work2[..ENTRIES].fill(0);
+        leave(&mut slices.table);
+        Searched {
+            uses: names(rule),
+            ..found(searched, &mut slices.run)
         }
-        Err(Refusal { number, place }) => Searched {
-            refused: number,
-            place,
-            ..Searched::default()
-        },
-    }
+    })
 }
 
 fn found(searched: plain::Searched, output: &mut [u8]) -> Searched {

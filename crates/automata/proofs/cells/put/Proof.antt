@@ -1,4 +1,4 @@
--- `tables::put`: one store.
+-- `automata::put`: one store.
 use native.Mathlib.Omega.{arith}
 use borrow.Author.Needs.{needs}
 use Rattle.automata.proofs.Puts.{put-set}

@@ -1,4 +1,4 @@
--- `tables::finals::add_pair` meets its contract. Assumes nothing.
+-- `automata::finals::add_pair` meets its contract. Assumes nothing.
 use mathlib.Core.Path.{sym, _∙_}
 use Rattle.automata.proofs.FinalSets.{pair-more, pair-less}
 use borrow.Author.Needs.{needs}

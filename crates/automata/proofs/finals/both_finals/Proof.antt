@@ -1,4 +1,4 @@
--- `tables::finals::both_finals` meets its contract. Assumes nothing.
+-- `automata::finals::both_finals` meets its contract. Assumes nothing.
 use mathlib.Core.Path.{_≡_}
 use Prim.Native.Nat.{_-_, _≤_}
 use native.Mathlib.Omega.{arith}

@@ -1,4 +1,4 @@
--- `tables::finals::either_finals` meets its contract. Assumes nothing.
+-- `automata::finals::either_finals` meets its contract. Assumes nothing.
 use mathlib.Core.Path.{sym, _∙_}
 use native.Mathlib.Omega.{arith}
 use mathlib.Core.Logic.{inl, inr}

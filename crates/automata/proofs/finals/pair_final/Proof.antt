@@ -1,4 +1,4 @@
--- `tables::finals::pair_final` meets its contract. Assumes nothing.
+-- `automata::finals::pair_final` meets its contract. Assumes nothing.
 use mathlib.Core.Path.{sym, _∙_}
 use native.Mathlib.Omega.{arith}
 use native.Mathlib.Nat.{div-le-self, mod-le}

@@ -1,4 +1,4 @@
--- `tables::finals::raise` meets its contract. Assumes nothing.
+-- `automata::finals::raise` meets its contract. Assumes nothing.
 use Rattle.automata.proofs.FinalSets.{shifted}
 use borrow.Author.Needs.{needs}
 use Rattle.automata.proofs.finals.raise.Statement.{statement}

@@ -1,4 +1,4 @@
--- `tables::finals::then_finals` meets its contract. Assumes nothing.
+-- `automata::finals::then_finals` meets its contract. Assumes nothing.
 use mathlib.Core.Path.{sym, _∙_}
 use native.Mathlib.Omega.{arith}
 use Rattle.automata.proofs.Ends.{then-finals-on, then-finals-off}

@@ -1,4 +1,4 @@
--- `tables::finals::within_finals` meets its contract. Assumes nothing.
+-- `automata::finals::within_finals` meets its contract. Assumes nothing.
 use mathlib.Core.Path.{ap₂}
 use Prim.Native.Nat.{ℕ, _+_, _*_}
 use native.Mathlib.Omega.{arith}

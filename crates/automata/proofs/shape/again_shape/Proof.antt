@@ -1,4 +1,4 @@
--- `tables::shape::again_shape` meets its contract. Assumes nothing.
+-- `automata::shape::again_shape` meets its contract. Assumes nothing.
 use Rattle.automata.proofs.Ends.{plus-finals, star-finals}
 use borrow.Author.Needs.{needs}
 use Rattle.automata.proofs.shape.again_shape.Statement.{statement}

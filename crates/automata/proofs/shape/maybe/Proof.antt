@@ -1,4 +1,4 @@
--- `tables::shape::maybe` meets its contract. Assumes nothing.
+-- `automata::shape::maybe` meets its contract. Assumes nothing.
 use mathlib.Core.Path.{refl}
 use borrow.Author.Needs.{needs}
 use Rattle.automata.proofs.RowEnds.{first-too, first-not}

@@ -1,4 +1,4 @@
--- `tables::shape::occurs_shape` meets its contract. Assumes nothing.
+-- `automata::shape::occurs_shape` meets its contract. Assumes nothing.
 use borrow.Author.Needs.{needs}
 use Rattle.automata.proofs.RowEnds.{occurs-shaped}
 use Rattle.automata.proofs.shape.occurs_shape.Statement.{statement}

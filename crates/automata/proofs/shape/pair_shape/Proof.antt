@@ -1,4 +1,4 @@
--- `tables::shape::pair_shape` meets its contract. Assumes nothing.
+-- `automata::shape::pair_shape` meets its contract. Assumes nothing.
 use mathlib.Core.Path.{ap₂}
 use Prim.Native.Nat.{ℕ, _+_, _*_}
 use native.Mathlib.Omega.{arith}

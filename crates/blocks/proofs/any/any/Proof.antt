@@ -1,4 +1,4 @@
--- `tables::any::any` meets its contract. Assumes nothing.
+-- `blocks::any::any` meets its contract. Assumes nothing.
 use mathlib.Core.Path.{refl}
 use native.Mathlib.Omega.{arith}
 use Rattle.automata.proofs.Puts.{put-as, put-down}

@@ -1,4 +1,4 @@
--- `tables::any::pad` meets its contract. Assumes nothing.
+-- `blocks::any::pad` meets its contract. Assumes nothing.
 use mathlib.Core.Path.{refl}
 use native.Mathlib.Omega.{arith}
 use Rattle.blocks.proofs.Withins.{padded}

@@ -1,4 +1,4 @@
--- `tables::choice::choice` meets its contract. Assumes nothing.
+-- `blocks::choice::choice` meets its contract. Assumes nothing.
 use native.Mathlib.Omega.{arith}
 use Rattle.blocks.proofs.Overlapping.{choice-both}
 use borrow.Author.Needs.{needs}

@@ -1,4 +1,4 @@
--- `tables::choice::either` meets its contract. Assumes nothing.
+-- `blocks::choice::either` meets its contract. Assumes nothing.
 use Rattle.blocks.proofs.Choices.{either-joins}
 use borrow.Author.Needs.{needs}
 use Rattle.blocks.proofs.choice.either.Statement.{statement}

@@ -1,4 +1,4 @@
--- `tables::clear::clear` meets its contract. Assumes nothing.
+-- `blocks::clear::clear` meets its contract. Assumes nothing.
 use mathlib.Core.Path.{_≡_, refl}
 use Prim.Native.Nat.{_-_, _≤_}
 use native.Mathlib.Omega.{arith}

@@ -1,4 +1,4 @@
--- `tables::fill::join` meets its contract. Assumes nothing.
+-- `blocks::fill::join` meets its contract. Assumes nothing.
 use borrow.Author.Needs.{needs}
 use Rattle.blocks.proofs.fill.join.Statement.{statement}
 use Rattle.blocks.proofs.fill.join.Tie as tie

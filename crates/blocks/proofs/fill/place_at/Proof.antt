@@ -1,4 +1,4 @@
--- `tables::fill::place_at` meets its contract. Assumes nothing.
+-- `blocks::fill::place_at` meets its contract. Assumes nothing.
 use mathlib.Core.Path.{refl}
 use mathlib.Core.Logic.{inl, inr}
 use native.Mathlib.Omega.{arith}

@@ -1,4 +1,4 @@
--- `tables::link::again` meets its contract. Assumes nothing.
+-- `blocks::link::again` meets its contract. Assumes nothing.
 use native.Mathlib.Omega.{arith}
 use Rattle.blocks.proofs.Turns.{repeats}
 use borrow.Author.Needs.{needs}

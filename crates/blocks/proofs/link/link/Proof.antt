@@ -1,4 +1,4 @@
--- `tables::link::link` meets its contract. Assumes nothing.
+-- `blocks::link::link` meets its contract. Assumes nothing.
 use mathlib.Core.Path.{_≡_, refl}
 use Prim.Native.Nat.{_-_, _≤_}
 use native.Mathlib.Omega.{arith}

@@ -1,4 +1,4 @@
--- `tables::link::link_row` meets its contract. Assumes nothing.
+-- `blocks::link::link_row` meets its contract. Assumes nothing.
 use mathlib.Core.Path.{_≡_, refl, sym, ap, _∙_}
 use native.Mathlib.Omega.{arith}
 use Rattle.bits.specs.Word.{bit}

@@ -1,4 +1,4 @@
--- `tables::link::then` meets its contract. Assumes nothing.
+-- `blocks::link::then` meets its contract. Assumes nothing.
 use Rattle.blocks.proofs.Crossings.{then-joins}
 use borrow.Author.Needs.{needs}
 use Rattle.blocks.proofs.link.then.Statement.{statement}

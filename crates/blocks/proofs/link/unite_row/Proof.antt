@@ -1,4 +1,4 @@
--- `tables::or_row`: the columns from src up to q are united. The measure is what is left of the columns.
+-- `blocks::or_row`: the columns from src up to q are united. The measure is what is left of the columns.
 use mathlib.Core.Path.{_≡_, refl, ap₂, _∙_}
 use Prim.Native.Nat.{_+_, _-_, _≤_}
 use native.Mathlib.Omega.{arith}

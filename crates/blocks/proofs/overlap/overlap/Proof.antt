@@ -1,4 +1,4 @@
--- `tables::overlap::overlap` meets its contract. Assumes nothing.
+-- `blocks::overlap::overlap` meets its contract. Assumes nothing.
 use Rattle.blocks.proofs.Crossings.{overlap-joins}
 use borrow.Author.Needs.{needs}
 use Rattle.blocks.proofs.overlap.overlap.Statement.{statement}

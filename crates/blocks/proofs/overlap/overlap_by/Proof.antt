@@ -1,4 +1,4 @@
--- `tables::overlap::overlap_by` meets its contract. Assumes nothing.
+-- `blocks::overlap::overlap_by` meets its contract. Assumes nothing.
 use mathlib.Core.Path.{sym, _∙_}
 use Rattle.blocks.proofs.Overlapping.{one-put, one-keep}
 use borrow.Author.Needs.{needs}

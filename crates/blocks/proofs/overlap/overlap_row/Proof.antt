@@ -1,4 +1,4 @@
--- `tables::overlap::overlap_row` meets its contract. Assumes nothing.
+-- `blocks::overlap::overlap_row` meets its contract. Assumes nothing.
 use mathlib.Core.Path.{_≡_, refl, sym}
 use Prim.Native.Nat.{_+_, _-_, _≤_}
 use native.Mathlib.Omega.{arith}

@@ -1,4 +1,4 @@
--- `tables::overlap::unite_part` meets its contract. Assumes nothing.
+-- `blocks::overlap::unite_part` meets its contract. Assumes nothing.
 use mathlib.Core.Path.{_≡_, refl, ap, ap₂, _∙_}
 use Prim.Native.Nat.{_+_, _-_, _≤_}
 use native.Mathlib.Omega.{arith}

@@ -1,4 +1,4 @@
--- `tables::product::both` meets its contract. Assumes nothing.
+-- `blocks::product::both` meets its contract. Assumes nothing.
 use native.Mathlib.Omega.{arith}
 use Rattle.blocks.proofs.Products.{both-small, both-joins}
 use borrow.Author.Needs.{needs}

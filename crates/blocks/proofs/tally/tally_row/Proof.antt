@@ -1,4 +1,4 @@
--- `tables::tally::tally_row` meets its contract. Assumes nothing.
+-- `blocks::tally::tally_row` meets its contract. Assumes nothing.
 use native.Mathlib.Omega.{arith}
 use borrow.Author.Needs.{needs}
 use Rattle.blocks.proofs.Tallies.{both-stored, one-stored}

@@ -1,4 +1,4 @@
--- `tables::tally::tally_rows` meets its contract. Assumes nothing.
+-- `blocks::tally::tally_rows` meets its contract. Assumes nothing.
 use mathlib.Core.Path.{_≡_, refl}
 use Prim.Native.Nat.{_-_, _≤_}
 use native.Mathlib.Omega.{arith}

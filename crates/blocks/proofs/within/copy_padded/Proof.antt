@@ -1,4 +1,4 @@
--- `tables::within::copy_padded` meets its contract. Assumes nothing.
+-- `blocks::within::copy_padded` meets its contract. Assumes nothing.
 use Rattle.blocks.proofs.Withins.{copy-padded}
 use borrow.Author.Needs.{needs}
 use Rattle.blocks.proofs.within.copy_padded.Statement.{statement}

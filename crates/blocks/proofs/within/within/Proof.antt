@@ -1,4 +1,4 @@
--- `tables::within::within` meets its contract. Assumes nothing.
+-- `blocks::within::within` meets its contract. Assumes nothing.
 use Prim.Native.Nat.{_*_}
 use native.Mathlib.Omega.{arith}
 use Rattle.blocks.proofs.Withins.{within-small, within-joins, zeros}

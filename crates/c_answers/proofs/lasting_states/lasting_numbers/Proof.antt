@@ -1,4 +1,4 @@
--- `exports::lasting_states::lasting_numbers` meets its contract: what is given are the numbers of the case that the answer is. Assumes nothing.
+-- `c_answers::lasting_states::lasting_numbers` meets its contract: what is given are the numbers of the case that the answer is. Assumes nothing.
 use mathlib.Core.Path.{refl}
 use Prim.Native.Nat.{ℕ}
 use Rattle.lasting.specs.Answer as lasting

@@ -1,4 +1,4 @@
--- `exports::texting::text_numbers` meets its contract: what is given are the numbers of the case that the answer is. Assumes nothing.
+-- `c_answers::texting::text_numbers` meets its contract: what is given are the numbers of the case that the answer is. Assumes nothing.
 use Prim.Native.Nat.{ℕ}
 use mathlib.Core.Path.{refl}
 use Rattle.texts.specs.Answer as texts

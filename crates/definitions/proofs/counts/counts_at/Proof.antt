@@ -1,4 +1,4 @@
--- `rules::counts_at` meets its contract. Assumes nothing.
+-- `definitions::counts_at` meets its contract. Assumes nothing.
 use Prim.Native.Nat.{_+_}
 use native.Mathlib.Omega.{arith}
 use borrow.Author.Needs.{needs}

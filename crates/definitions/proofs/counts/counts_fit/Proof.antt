@@ -1,4 +1,4 @@
--- `rules::counts_fit` meets its contract: it is the test, the first part first. Assumes nothing.
+-- `definitions::counts_fit` meets its contract: it is the test, the first part first. Assumes nothing.
 use mathlib.Core.Path.{sym, ap}
 use mathlib.Core.Bool.{Bool, _&&_}
 use lib.Dec.{leb}

@@ -1,4 +1,4 @@
--- `rules::kind_of` meets its contract: each arm is a row of the table, and a byte of no arm is in no row.
+-- `definitions::kind_of` meets its contract: each arm is a row of the table, and a byte of no arm is in no row.
 -- Assumes nothing.
 use mathlib.Core.Path.{sym, ap}
 use borrow.Author.Tests.{ne-eqb}
