@@ -1,15 +1,15 @@
--- `tables::product::product_part` meets its contract. Assumes nothing.
+-- `blocks::product::product_part` meets its contract. Assumes nothing.
 use mathlib.Core.Path.{_≡_, refl}
 use Prim.Native.Nat.{_+_, _-_, _*_, _/_, _%_, _<_, _≤_}
 use native.Mathlib.Omega.{arith}
 use lib.ListN.{length}
-use Rattle.tables.specs.Table.{tableStates}
-use Rattle.tables.specs.inner.Cells.{Put}
-use Rattle.tables.proofs.blocks.Pairing.{part, part-inside, met, met-at, met-paired}
-use Rattle.tables.proofs.blocks.Puts.{put-none, put-step, put-as}
+use Rattle.automata.specs.Table.{tableStates}
+use Rattle.automata.specs.inner.Cells.{Put}
+use Rattle.blocks.proofs.Pairing.{part, part-inside, met, met-at, met-paired}
+use Rattle.automata.proofs.Puts.{put-none, put-step, put-as}
 use borrow.Author.Needs.{needs}
-use Rattle.tables.proofs.product.product_part.Statement.{statement}
-use Rattle.tables.proofs.product.product_part.Tie as tie
+use Rattle.blocks.proofs.product.product_part.Statement.{statement}
+use Rattle.blocks.proofs.product.product_part.Tie as tie
 
 abbrev Inv-loop : tie.InvT-loop
 Inv-loop t₀ u p j n second i by row lo k₀ t k =
