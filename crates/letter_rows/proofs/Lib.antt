@@ -1,0 +1,4 @@
+pub mod Blocking
+pub mod Carrying
+pub mod Laying
+pub mod Refusing
