@@ -53,11 +53,11 @@ rows-at table i l = list-at (length table) (λ i. rowOf table (i % tableStates) 
 
 -- ---- the bits of labels and rows
 
-label-bit : (rows : List ℕ) (p q x : ℕ) → x < letterCount → bit (labelOf rows p q) x ≡ bit (rowAt rows x p) q
+pub label-bit : (rows : List ℕ) (p q x : ℕ) → x < letterCount → bit (labelOf rows p q) x ≡ bit (rowAt rows x p) q
 unfolding labelOf
 label-bit rows p q x h = bit-word letterCount (λ y. bit (rowAt rows y p) q) x h
 
-row-bit : (table : List ℕ) (p x q : ℕ) → q < tableStates → bit (rowOf table p x) q ≡ bit (cell table p q) x
+pub row-bit : (table : List ℕ) (p x q : ℕ) → q < tableStates → bit (rowOf table p x) q ≡ bit (cell table p q) x
 unfolding rowOf
 row-bit table p x q h = bit-word tableStates (λ r. bit (cell table p r) x) q h
 
