@@ -26,6 +26,9 @@ use Rattle.passes.specs.declared.inner.Searched.{Searched}
 use Rattle.search.specs.Answer as search
 use Rattle.trims.specs.declared.TrimAnswer.{TrimAnswer}
 use Rattle.trims.specs.Answer as trims
+use Rattle.letter_rows.specs.declared.ConvertAnswer.{ConvertAnswer}
+use Rattle.letter_rows.specs.Answer as rows
+use Rattle.c_answers.specs.declared.converting.GcDone.{GcDone}
 use Rattle.c_answers.specs.declared.trimming.GcTrimmed.{GcTrimmed}
 use Rattle.texts.specs.declared.TextAnswer.{TextAnswer}
 use Rattle.texts.specs.Answer as texts
@@ -38,7 +41,7 @@ use Rattle.c_answers.specs.declared.stepping.GcStepped.{GcStepped}
 use Rattle.c_answers.specs.declared.following.GcMoved.{GcMoved}
 use Rattle.c_answers.specs.declared.lasting_states.GcLasts.{GcLasts}
 use Rattle.c_answers.specs.declared.searching.GcSearched.{GcSearched}
-use Rattle.c_answers.specs.Numbers.{ruleNumbers, stateNumbers, builtNumbers, judgedNumbers, movedNumbers, lastingNumbers, searchedNumbers, textNumbers, walkerNumbers, beside, steppedNumbers, trimmedNumbers}
+use Rattle.c_answers.specs.Numbers.{ruleNumbers, stateNumbers, builtNumbers, judgedNumbers, movedNumbers, lastingNumbers, searchedNumbers, doneNumbers, textNumbers, walkerNumbers, beside, steppedNumbers, trimmedNumbers}
 use Rattle.c_answers.specs.declared.texting.GcText.{GcText}
 
 -- what is right of the case is right of the answer
@@ -79,6 +82,9 @@ searchedOf run a = searchedNumbers (search.told a run)
 
 abbrev pub trimmedOf : TrimAnswer → GcTrimmed
 trimmedOf a = trimmedNumbers (trims.told a)
+
+abbrev pub doneOf : ConvertAnswer → GcDone
+doneOf a = doneNumbers (rows.told a)
 
 abbrev pub textsOf : TextAnswer → GcText
 textsOf a = textNumbers (texts.told a)

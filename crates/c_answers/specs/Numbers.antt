@@ -13,6 +13,7 @@ use Rattle.lasting.specs.Answer as lasting
 use Rattle.levels.specs.Right.{found, nothing}
 use Rattle.search.specs.Answer as search
 use Rattle.trims.specs.Answer as trims
+use Rattle.letter_rows.specs.Answer as rows
 use Rattle.texts.specs.Answer as texts
 use Rattle.c_answers.specs.declared.reading.GcRule.{GcRule}
 use Rattle.c_answers.specs.declared.reading.GcModel.{GcModel}
@@ -24,6 +25,7 @@ use Rattle.c_answers.specs.declared.following.GcMoved.{GcMoved}
 use Rattle.c_answers.specs.declared.lasting_states.GcLasts.{GcLasts}
 use Rattle.c_answers.specs.declared.searching.GcSearched.{GcSearched}
 use Rattle.c_answers.specs.declared.trimming.GcTrimmed.{GcTrimmed}
+use Rattle.c_answers.specs.declared.converting.GcDone.{GcDone}
 use Rattle.c_answers.specs.declared.texting.GcText.{GcText}
 
 -- yes is 1, no is 0
@@ -86,6 +88,10 @@ searchedNumbers (search.refused n p) = record { refused = n; place = p; found = 
 abbrev pub trimmedNumbers : trims.Result → GcTrimmed
 trimmedNumbers (trims.trimmed n f) = record { refused = 0; place = 0; weight = n; finals = f }
 trimmedNumbers (trims.refused n p) = record { refused = n; place = p; weight = 0; finals = 0 }
+
+abbrev pub doneNumbers : rows.Result → GcDone
+doneNumbers rows.converted = record { refused = 0; place = 0 }
+doneNumbers (rows.refused n p) = record { refused = n; place = p }
 
 abbrev pub textNumbers : texts.Result → GcText
 textNumbers (texts.given n k) = record { refused = 0; place = 0; length = n; weight = k .weight; uses = k .uses }

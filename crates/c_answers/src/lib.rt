@@ -8,5 +8,6 @@ pub mod stepping; // a walker
 pub mod following; // a whole sequence
 pub mod lasting_states; // which states of a model last
 pub mod searching; // a model, for a rule
+pub mod converting; // a table as rows by letter
 pub mod trimming; // a table without the states that do no work
 pub mod texting; // a rule as text

@@ -76,3 +76,17 @@ pub fn stepped_numbers(came: GcWalker, step: Step) -> Stepping
         }
     }
 }
+
+// What a step by value gives back.
+pub fn given_back(s: Stepping) -> GcStepped
+    ensures { λ r. ⌜ r ≡ beside (s .walker) (s .says) ⌝ }
+{
+    let says = s.says;
+    let walker = s.walker;
+    GcStepped {
+        refused: says.refused,
+        place: says.place,
+        matches: says.matches,
+        walker,
+    }
+}

@@ -29,11 +29,16 @@ use Rattle.c_answers.specs.declared.stepping.GcStepped.{GcStepped}
 use Rattle.c_answers.specs.declared.following.GcMoved.{GcMoved}
 use Rattle.c_answers.specs.declared.lasting_states.GcLasts.{GcLasts}
 use Rattle.c_answers.specs.declared.searching.GcSearched.{GcSearched}
-use Rattle.c_answers.specs.Numbers.{ruleNumbers, modelNumbers, builtNumbers, judgedNumbers, steppedNumbers, movedNumbers, lastingNumbers, searchedNumbers, textNumbers, walkerOf, walkerNumbers, beside, trimmedNumbers}
-use Rattle.exports.specs.Promise.{GcBuilds, GcJudges, GcLasting, GcSearches, ReadsText, WritesText, GcTrims, GcSearchesTrimmed}
+use Rattle.c_answers.specs.Numbers.{ruleNumbers, modelNumbers, builtNumbers, judgedNumbers, steppedNumbers, movedNumbers, lastingNumbers, searchedNumbers, textNumbers, doneNumbers, walkerOf, walkerNumbers, beside, trimmedNumbers}
+use Rattle.exports.specs.Promise.{GcBuilds, GcJudges, GcLasting, GcSearches, ReadsText, WritesText, GcTrims, GcRowsOf, GcTableOf, GcSearchesTrimmed}
 use Rattle.trims.specs.declared.TrimAnswer.{TrimAnswer}
 use Rattle.trims.specs.Answer as trims
 use Rattle.trims.proofs.Once as trims-once
+use Rattle.letter_rows.specs.declared.ConvertAnswer.{ConvertAnswer}
+use Rattle.letter_rows.specs.Answer as rows
+use Rattle.letter_rows.specs.Layouts.{tableBy}
+use Rattle.letter_rows.proofs.Once as rows-once
+use Rattle.c_answers.specs.declared.converting.GcDone.{GcDone}
 use Rattle.trimmed_search.proofs.Once.{one-trimmed-answer}
 use Rattle.c_answers.specs.declared.trimming.GcTrimmed.{GcTrimmed}
 use Rattle.texts.specs.Answer as texts
@@ -61,6 +66,23 @@ one-lent-step t w v v′ x r r′ e e′ =
 
 pub one-follow : (t : List ℕ) (finals : ℕ) (w : List ℕ) (r r′ : GcMoved) → r ≡ movedNumbers (followOf t finals w) → r′ ≡ movedNumbers (followOf t finals w) → r ≡ r′
 one-follow t finals w r r′ e e′ = e ∙ sym e′
+
+pub one-row-step : (t : List ℕ) (w : GcWalker) (x : ℕ) (r r′ : GcStepped)
+    → r ≡ steppedNumbers w (walkers.stepOf (tableBy t) (walkerOf w) x) → r′ ≡ steppedNumbers w (walkers.stepOf (tableBy t) (walkerOf w) x) → r ≡ r′
+one-row-step t w x r r′ e e′ = e ∙ sym e′
+
+pub one-row-follow : (t : List ℕ) (finals : ℕ) (w : List ℕ) (r r′ : GcMoved) → r ≡ movedNumbers (followOf (tableBy t) finals w) → r′ ≡ movedNumbers (followOf (tableBy t) finals w) → r ≡ r′
+one-row-follow t finals w r r′ e e′ = e ∙ sym e′
+
+pub one-rows-of : (t before u v : List ℕ) (r r′ : GcDone) → GcRowsOf t before u r → GcRowsOf t before v r′ → (r ≡ r′) × (u ≡ v)
+one-rows-of t before u v r r′ x x′ =
+    let o = rows-once.one-answer (x .answer) (x′ .answer) (x .right) (x′ .right) in
+    (x .given ∙ ap (λ (a : ConvertAnswer). doneNumbers (rows.told a)) (o .0) ∙ sym (x′ .given), o .1)
+
+pub one-table-of : (t before u v : List ℕ) (r r′ : GcDone) → GcTableOf t before u r → GcTableOf t before v r′ → (r ≡ r′) × (u ≡ v)
+one-table-of t before u v r r′ x x′ =
+    let o = rows-once.one-answer (x .answer) (x′ .answer) (x .right) (x′ .right) in
+    (x .given ∙ ap (λ (a : ConvertAnswer). doneNumbers (rows.told a)) (o .0) ∙ sym (x′ .given), o .1)
 
 pub one-build : (s t u v : List ℕ) (r r′ : GcBuilt) → Words u → Words v → GcBuilds s t u r → GcBuilds s t v r′ → (r ≡ r′) × (u ≡ v)
 one-build s t u v r r′ hu hv b b′ =

@@ -8,6 +8,7 @@ mod stepping; // a walker
 mod following; // a whole sequence
 mod lasting_states; // which states of a model last
 mod searching; // a model, for a rule
+mod converting; // a table as rows by letter
 mod trimming; // a table without the states that do no work
 mod checking; // one input, as a line
 mod texting; // a rule as text

@@ -5,9 +5,9 @@ ghost use lib.ListN.{length};
 ghost use Rattle.squares.specs.Squares.{side};
 ghost use Rattle.automata.specs.Table.{tableStates, tableEntries};
 ghost use Rattle.letter_rows.specs.inner.Blocks.{Lies, ReadOut, WrittenTo, Steps, Carried, CarriedTo};
+use automata::STATES;
 use squares::SIDE;
 use squares::turn_over;
-use automata::STATES;
 
 // The block becomes the words at `base`, `base` + `step` and so on.
 fn read_block(words: &[u64], base: usize, step: usize, block: &mut [u64])

@@ -8,9 +8,9 @@ ghost use Rattle.steps.specs.Moves.{advanced};
 ghost use Rattle.letter_rows.specs.Layouts.{tableBy};
 ghost use Rattle.letter_rows.specs.Refusals.{number, place};
 ghost use Rattle.letter_rows.specs.Answer.{told, RowsRight, TableRight};
-use definitions::numbers::SHORT_SLICE;
 use automata::STATES;
 use automata::TABLE_ENTRIES;
+use definitions::numbers::SHORT_SLICE;
 
 mod blocks; // the words of one state, and of all
 
