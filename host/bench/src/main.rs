@@ -6,6 +6,7 @@
 mod generated;
 mod hard;
 mod labels;
+mod searchers;
 mod stack;
 mod texts;
 mod timing;

@@ -1,10 +1,10 @@
-//! The proved search and its twin in Rust, on the same inputs, in the same slices, by turns.
+//! The times of the proved search and of its twin in Rust, on the same inputs, in the same slices, by turns.
 
 use crate::generated::{self, Case};
 use crate::hard;
-use crate::timing::{micros, Times};
+use crate::searchers::{Proved, Said, Searcher, Slices, Twin};
+use crate::timing::{columns, micros, row, Times};
 use cases::{damage, models, rules, Draws};
-use gongcollar::{raw, ENTRIES};
 use std::hint::black_box;
 use std::time::{Duration, Instant};
 
@@ -16,94 +16,6 @@ const TURNS: usize = 9;
 const HARD_TURNS: usize = 101;
 /// How many rules a change window has.
 const WINDOW: usize = 300;
-
-/// What both say of a search: the run, the pairs and the propositions; or the refusal's number and place.
-type Said = Result<(Option<Vec<u8>>, u64, u64), (u64, u64)>;
-
-/// The four slices that both are lent.
-#[derive(Debug, Clone, PartialEq, Eq)]
-struct Slices {
-    table: Vec<u64>,
-    work1: Vec<u16>,
-    work2: Vec<u16>,
-    run: Vec<u8>,
-}
-
-impl Slices {
-    fn new() -> Slices {
-        Slices {
-            table: vec![0; ENTRIES],
-            work1: vec![0; ENTRIES],
-            work2: vec![0; ENTRIES],
-            run: vec![0; ENTRIES],
-        }
-    }
-
-    /// Junk, of which now and then one is too short.
-    fn junk(draws: &mut Draws) -> Slices {
-        let junk = draws.byte();
-        let mut short = || usize::from(draws.once_in(50));
-        Slices {
-            table: vec![junk.into(); ENTRIES - short()],
-            work1: vec![junk.into(); ENTRIES - short()],
-            work2: vec![junk.into(); ENTRIES - short()],
-            run: vec![junk; ENTRIES - short()],
-        }
-    }
-}
-
-/// One of the two.
-trait Searcher {
-    type Answer;
-    fn search(slices: &mut Slices, rule: &[u8], model: &[u8]) -> Self::Answer;
-    /// What an answer says; the run stands in the output.
-    fn said(answer: Self::Answer, output: &[u8]) -> Said;
-}
-
-struct Proved;
-struct Twin;
-
-impl Searcher for Proved {
-    type Answer = raw::Searched;
-
-    fn search(slices: &mut Slices, rule: &[u8], model: &[u8]) -> raw::Searched {
-        let mut lent = raw::Lent {
-            table: &mut slices.table,
-            work1: &mut slices.work1,
-            work2: &mut slices.work2,
-            run: &mut slices.run,
-        };
-        raw::search(rule, model, &mut lent)
-    }
-
-    fn said(answer: raw::Searched, output: &[u8]) -> Said {
-        if answer.refused != 0 {
-            return Err((answer.refused, answer.place));
-        }
-        let run = (answer.found == 1).then(|| output[..answer.length as usize].to_vec());
-        Ok((run, answer.pairs, answer.uses))
-    }
-}
-
-impl Searcher for Twin {
-    type Answer = Result<twin::Searched, twin::Refusal>;
-
-    fn search(slices: &mut Slices, rule: &[u8], model: &[u8]) -> Self::Answer {
-        let mut lent = twin::Lent {
-            table: &mut slices.table,
-            work1: &mut slices.work1,
-            work2: &mut slices.work2,
-            run: &mut slices.run,
-        };
-        twin::search(rule, model, &mut lent)
-    }
-
-    fn said(answer: Self::Answer, output: &[u8]) -> Said {
-        let searched = answer.map_err(|refusal| (refusal.number, refusal.place as u64))?;
-        let run = searched.length.map(|length| output[..length].to_vec());
-        Ok((run, searched.pairs as u64, searched.uses))
-    }
-}
 
 /// One search: its time, and what it says.
 fn timed<S: Searcher>(slices: &mut Slices, case: &Case) -> (Duration, Said) {
@@ -120,6 +32,22 @@ fn window<S: Searcher>(slices: &mut Slices, rules: &[Vec<u8>], model: &[u8]) -> 
         black_box(S::search(slices, rule, model));
     }
     start.elapsed()
+}
+
+/// What both do with the slices, the one or the other first.
+fn in_turn<T>(
+    proved_first: bool,
+    slices: &mut Slices,
+    proved: impl FnOnce(&mut Slices) -> T,
+    twin: impl FnOnce(&mut Slices) -> T,
+) -> (T, T) {
+    if proved_first {
+        let ours = proved(slices);
+        (ours, twin(slices))
+    } else {
+        let theirs = twin(slices);
+        (proved(slices), theirs)
+    }
 }
 
 /// How long both took.
@@ -144,9 +72,11 @@ impl Both {
 
     /// The middle times of some.
     fn middle(times: &[Both]) -> Both {
+        let middle =
+            |one: fn(&Both) -> Duration| Times::of(times.iter().map(one).collect()).median();
         Both {
-            proved: Times::of(times.iter().map(|time| time.proved).collect()).median(),
-            twin: Times::of(times.iter().map(|time| time.twin).collect()).median(),
+            proved: middle(|time| time.proved),
+            twin: middle(|time| time.twin),
         }
     }
 
@@ -181,13 +111,17 @@ impl Comparison {
     /// The middle times of both on a case.
     fn times(&mut self, case: &Case, turns: usize) -> Both {
         Both::by_turns(turns, |proved_first| {
-            let mut proved = proved_first.then(|| timed::<Proved>(&mut self.slices, case));
-            let (twin, twin_said) = timed::<Twin>(&mut self.slices, case);
-            let (proved, proved_said) = proved
-                .take()
-                .unwrap_or_else(|| timed::<Proved>(&mut self.slices, case));
-            self.note(case, true, &proved_said, &twin_said);
-            Both { proved, twin }
+            let (ours, theirs) = in_turn(
+                proved_first,
+                &mut self.slices,
+                |slices| timed::<Proved>(slices, case),
+                |slices| timed::<Twin>(slices, case),
+            );
+            self.note(case, true, &ours.1, &theirs.1);
+            Both {
+                proved: ours.0,
+                twin: theirs.0,
+            }
         })
     }
 
@@ -253,13 +187,10 @@ fn generated_cases(seed: u64, cases: &[Case], comparison: &mut Comparison) -> Ve
     println!(
         "times on a case; the middle time counts, and of the runs the middle one for each case."
     );
-    println!();
-    println!(
-        "{:<20}{:>10}{:>10}{:>10}{:>12}",
-        "", "median", "90 %", "largest", "all"
-    );
-    row("proved", times.iter().map(|both| both.proved));
-    row("twin", times.iter().map(|both| both.twin));
+    columns();
+    let of = |one: fn(&Both) -> Duration| Times::of(times.iter().map(one).collect());
+    row("proved", &of(|both| both.proved));
+    row("twin", &of(|both| both.twin));
     let mut of_cases: Vec<f64> = times.iter().map(|both| both.ratio()).collect();
     of_cases.sort_by(f64::total_cmp);
     let part = |percent: usize| of_cases[(of_cases.len() - 1) * percent / 100];
@@ -277,17 +208,6 @@ fn generated_cases(seed: u64, cases: &[Case], comparison: &mut Comparison) -> Ve
     let mut ratios: Vec<f64> = sums.collect();
     ratios.sort_by(f64::total_cmp);
     ratios
-}
-
-fn row(name: &str, times: impl Iterator<Item = Duration>) {
-    let times = Times::of(times.collect());
-    println!(
-        "{name:<20}{:>10}{:>10}{:>10}{:>12}",
-        micros(times.median()),
-        micros(times.ninetieth()),
-        micros(times.largest()),
-        micros(times.total())
-    );
 }
 
 fn heading(title: &str) {
@@ -334,9 +254,12 @@ fn windows(seed: u64, slices: &mut Slices) {
         ),
     ] {
         let both = Both::by_turns(HARD_TURNS, |proved_first| {
-            let first = proved_first.then(|| window::<Proved>(slices, &rules, &model));
-            let twin = window::<Twin>(slices, &rules, &model);
-            let proved = first.unwrap_or_else(|| window::<Proved>(slices, &rules, &model));
+            let (proved, twin) = in_turn(
+                proved_first,
+                slices,
+                |slices| window::<Proved>(slices, &rules, &model),
+                |slices| window::<Twin>(slices, &rules, &model),
+            );
             Both { proved, twin }
         });
         told(name, both);

@@ -29,7 +29,7 @@ row-requires : tie.Need-row-requires Inv-loop μ-loop
 row-requires c κs = omega arith
 
 without-requires : tie.Need-without-requires Inv-loop μ-loop
-without-requires c κs = c .before .lowest .ensures .inside
+without-requires c κs = c .before .lowest .ensures
 
 loop-less : tie.Need-loop-less Inv-loop μ-loop
 loop-less c = turn-less (c .before .before .before .before .loop .inv .1) (c .before .before .lowest .ensures) (c .without .ensures)

@@ -24,7 +24,7 @@ lowest-requires : tie.Need-lowest-requires Inv-loop μ-loop
 lowest-requires c κs = search needs
 
 without-requires : tie.Need-without-requires Inv-loop μ-loop
-without-requires c κs = c .lowest .ensures .inside
+without-requires c κs = c .lowest .ensures
 
 mul-there : tie.Need-mul-there Inv-loop μ-loop
 mul-there c = record { fits = omega (arith, c .before .before .before .before .before .pre .1) }

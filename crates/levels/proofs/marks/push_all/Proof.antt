@@ -26,7 +26,7 @@ lowest-requires : tie.Need-lowest-requires Inv-loop μ-loop
 lowest-requires c κs = search needs
 
 without-requires : tie.Need-without-requires Inv-loop μ-loop
-without-requires c κs = c .lowest .ensures .inside
+without-requires c κs = c .lowest .ensures
 
 mul-push : tie.Need-mul-push Inv-loop μ-loop
 mul-push c = record { fits = omega (arith, c .before .before .before .before .before .before .before .before .pre .1) }

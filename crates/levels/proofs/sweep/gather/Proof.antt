@@ -21,7 +21,7 @@ lowest-requires : tie.Need-lowest-requires Inv-loop μ-loop
 lowest-requires c κs = search needs
 
 without-requires : tie.Need-without-requires Inv-loop μ-loop
-without-requires c κs = c .lowest .ensures .inside
+without-requires c κs = c .lowest .ensures
 
 sent-requires : tie.Need-sent-requires Inv-loop μ-loop
 sent-requires c κs = let h = c .before .before .before .before .before .before .pre .0 (c .before .lowest .result) (turn-was (c .before .before .before .loop .inv .0) (c .before .lowest .ensures) (c .without .ensures)) in (h .0, h .1, c .before .before .before .before .before .before .pre .1)

@@ -37,7 +37,7 @@ lowest-requires : tie.Need-lowest-requires Inv-loop μ-loop
 lowest-requires c κs = omega arith
 
 without-requires : tie.Need-without-requires Inv-loop μ-loop
-without-requires c κs = c .lowest .ensures .inside
+without-requires c κs = c .lowest .ensures
 
 incoming-requires : tie.Need-incoming-requires Inv-loop μ-loop
 incoming-requires c κs =
