@@ -12,7 +12,7 @@ use automata::STATES;
 use automata::TABLE_ENTRIES;
 use definitions::numbers::SHORT_SLICE;
 
-mod blocks; // the words of one state, and of all
+mod states; // the words of one state, and of all
 
 // Why nothing is converted.
 pub enum Refusal {
@@ -58,7 +58,7 @@ pub fn rows_of(table: &[u64], rows: &mut [u64]) -> ConvertAnswer
     if rows.len() < TABLE_ENTRIES {
         return ConvertAnswer::Refused(Refusal::ShortSlice);
     }
-    blocks::convert(table, rows, STATES, 1);
+    states::convert(table, rows, STATES, 1);
     ConvertAnswer::Converted
 }
 
@@ -72,7 +72,7 @@ pub fn table_of(rows: &[u64], table: &mut [u64]) -> ConvertAnswer
     if table.len() < TABLE_ENTRIES {
         return ConvertAnswer::Refused(Refusal::ShortSlice);
     }
-    blocks::convert(rows, table, 1, STATES);
+    states::convert(rows, table, 1, STATES);
     ConvertAnswer::Converted
 }
 

@@ -1,11 +1,11 @@
--- `letter_rows::blocks::read_block` meets its contract. The invariant: the first k words are read. Assumes nothing.
+-- `letter_rows::states::read_block` meets its contract. The invariant: the first k words are read. Assumes nothing.
 use Prim.Native.Nat.{_-_, _≤_}
 use native.Mathlib.Omega.{arith}
 use borrow.Author.Needs.{needs}
 use Rattle.letter_rows.specs.inner.Blocks.{ReadOut}
 use Rattle.letter_rows.proofs.Blocking.{read-none, read-turn}
-use Rattle.letter_rows.proofs.blocks.read_block.Statement.{statement}
-use Rattle.letter_rows.proofs.blocks.read_block.Tie as tie
+use Rattle.letter_rows.proofs.states.read_block.Statement.{statement}
+use Rattle.letter_rows.proofs.states.read_block.Tie as tie
 
 abbrev Inv-loop : tie.InvT-loop
 Inv-loop words base step block₀ k₀ block k = (k ≤ 64) × ReadOut words block₀ block base step k

@@ -1,11 +1,11 @@
--- `letter_rows::blocks::convert` meets its contract. The invariant: the words of the states below p are carried over. Assumes nothing.
+-- `letter_rows::states::convert` meets its contract. The invariant: the words of the states below p are carried over. Assumes nothing.
 use Prim.Native.Nat.{_-_, _≤_}
 use native.Mathlib.Omega.{arith}
 use borrow.Author.Needs.{needs}
 use Rattle.letter_rows.specs.inner.Blocks.{CarriedTo}
 use Rattle.letter_rows.proofs.Carrying.{carried-none, carried-next}
-use Rattle.letter_rows.proofs.blocks.convert.Statement.{statement}
-use Rattle.letter_rows.proofs.blocks.convert.Tie as tie
+use Rattle.letter_rows.proofs.states.convert.Statement.{statement}
+use Rattle.letter_rows.proofs.states.convert.Tie as tie
 
 abbrev Inv-loop : tie.InvT-loop
 Inv-loop given to₀ far near p₀ to p = (p ≤ 64) × CarriedTo given to₀ to far near p

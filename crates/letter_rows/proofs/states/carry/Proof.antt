@@ -1,9 +1,9 @@
--- `letter_rows::blocks::carry` meets its contract: the state's words are read out, turned over and written. Assumes nothing.
+-- `letter_rows::states::carry` meets its contract: the state's words are read out, turned over and written. Assumes nothing.
 use native.Mathlib.Omega.{arith}
 use borrow.Author.Needs.{needs}
 use Rattle.letter_rows.proofs.Carrying.{far-fits, near-fits, far-some, lies-given, lies-to, carried-of}
-use Rattle.letter_rows.proofs.blocks.carry.Statement.{statement}
-use Rattle.letter_rows.proofs.blocks.carry.Tie as tie
+use Rattle.letter_rows.proofs.states.carry.Statement.{statement}
+use Rattle.letter_rows.proofs.states.carry.Tie as tie
 
 mul-read-block : tie.Need-mul-read-block
 mul-read-block c = record { fits = far-fits _ (c .before .before .pre .2) (c .before .before .pre .3) }

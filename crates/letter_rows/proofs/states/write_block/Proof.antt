@@ -1,11 +1,11 @@
--- `letter_rows::blocks::write_block` meets its contract. The invariant: the first k words are written. Assumes nothing.
+-- `letter_rows::states::write_block` meets its contract. The invariant: the first k words are written. Assumes nothing.
 use Prim.Native.Nat.{_-_, _≤_}
 use native.Mathlib.Omega.{arith}
 use borrow.Author.Needs.{needs}
 use Rattle.letter_rows.specs.inner.Blocks.{WrittenTo}
 use Rattle.letter_rows.proofs.Blocking.{write-none, write-turn}
-use Rattle.letter_rows.proofs.blocks.write_block.Statement.{statement}
-use Rattle.letter_rows.proofs.blocks.write_block.Tie as tie
+use Rattle.letter_rows.proofs.states.write_block.Statement.{statement}
+use Rattle.letter_rows.proofs.states.write_block.Tie as tie
 
 abbrev Inv-loop : tie.InvT-loop
 Inv-loop words₀ base step block k₀ words k = (k ≤ 64) × WrittenTo words₀ words block base step k
