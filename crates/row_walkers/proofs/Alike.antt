@@ -1,11 +1,9 @@
 -- What a walker answers over a table it answers over the table's rows. Assumes nothing.
 use Prim.Native.Nat.{ℕ, _+_, _<_, _≤_}
 use native.Mathlib.Omega.{arith}
-use mathlib.Core.Path.{_≡_, refl, ap, _∙_}
+use mathlib.Core.Path.{_≡_, refl, sym, _∙_}
 use mathlib.Core.Logic.{_⊎_, inl, inr}
-use mathlib.Core.Bool.{Bool, true, false, cond}
 use mathlib.Core.List.{List, [], _∷_}
-use lib.Dec.{ltb}
 use lib.ListN.{length}
 use borrow.Author.Tests.{lt-ltb, le-ltb}
 use Rattle.bits.proofs.Laws.{lt-or-ge}
@@ -15,6 +13,7 @@ use Rattle.steps.specs.Moves.{advanced}
 use Rattle.walkers.specs.declared.Walker.{Walker}
 use Rattle.walkers.specs.Steps.{stepOf}
 use Rattle.walkers.specs.Walks.{followFrom, followOf}
+use Rattle.walkers.specs.Remembers.{Took, fresh, stepped, refused}
 use Rattle.letter_rows.specs.Layouts.{RowsOf, tableBy}
 use Rattle.letter_rows.proofs.Laying.{table-length, advanced-same}
 
@@ -64,3 +63,9 @@ module _ {table rows : List ℕ} (r : RowsOf table rows) where
 
   pub rows-follow : (finals : ℕ) (l : List ℕ) → followOf (tableBy rows) finals l ≡ followOf table finals l
   rows-follow = follow-alike (tableBy rows) table (as-long rows (r .rows-long)) (r .table-long) (advanced-same r)
+
+  -- a walker that took letters over the rows took them over the table
+  pub rows-took : {finals : ℕ} {l : List ℕ} {v : Walker} → Took (tableBy rows) finals l v → Took table finals l v
+  rows-took (fresh e d) = fresh e d
+  rows-took (stepped u w x b h e d) = stepped u w x b (rows-took h) (sym (rows-step w x) ∙ e) d
+  rows-took (refused t′ w x n p h e) = refused t′ w x n p (rows-took h) e
