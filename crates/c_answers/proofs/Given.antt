@@ -28,6 +28,9 @@ use Rattle.trims.specs.declared.TrimAnswer.{TrimAnswer}
 use Rattle.trims.specs.Answer as trims
 use Rattle.letter_rows.specs.declared.ConvertAnswer.{ConvertAnswer}
 use Rattle.letter_rows.specs.Answer as rows
+use Rattle.formula_models.specs.declared.FormulasAnswer.{FormulasAnswer}
+use Rattle.formula_models.specs.Answer as formula-models
+use Rattle.c_answers.specs.declared.modelling.GcWritten.{GcWritten}
 use Rattle.c_answers.specs.declared.converting.GcDone.{GcDone}
 use Rattle.c_answers.specs.declared.trimming.GcTrimmed.{GcTrimmed}
 use Rattle.texts.specs.declared.TextAnswer.{TextAnswer}
@@ -41,7 +44,7 @@ use Rattle.c_answers.specs.declared.stepping.GcStepped.{GcStepped}
 use Rattle.c_answers.specs.declared.following.GcMoved.{GcMoved}
 use Rattle.c_answers.specs.declared.lasting_states.GcLasts.{GcLasts}
 use Rattle.c_answers.specs.declared.searching.GcSearched.{GcSearched}
-use Rattle.c_answers.specs.Numbers.{ruleNumbers, stateNumbers, builtNumbers, judgedNumbers, movedNumbers, lastingNumbers, searchedNumbers, doneNumbers, textNumbers, walkerNumbers, beside, steppedNumbers, trimmedNumbers}
+use Rattle.c_answers.specs.Numbers.{ruleNumbers, stateNumbers, builtNumbers, judgedNumbers, movedNumbers, lastingNumbers, searchedNumbers, doneNumbers, writtenNumbers, textNumbers, walkerNumbers, beside, steppedNumbers, trimmedNumbers}
 use Rattle.c_answers.specs.declared.texting.GcText.{GcText}
 
 -- what is right of the case is right of the answer
@@ -85,6 +88,9 @@ trimmedOf a = trimmedNumbers (trims.told a)
 
 abbrev pub doneOf : ConvertAnswer → GcDone
 doneOf a = doneNumbers (rows.told a)
+
+abbrev pub writtenOf : FormulasAnswer → GcWritten
+writtenOf a = writtenNumbers (formula-models.told a)
 
 abbrev pub textsOf : TextAnswer → GcText
 textsOf a = textNumbers (texts.told a)

@@ -14,6 +14,8 @@ use Rattle.levels.specs.Right.{found, nothing}
 use Rattle.search.specs.Answer as search
 use Rattle.trims.specs.Answer as trims
 use Rattle.letter_rows.specs.Answer as rows
+use Rattle.formula_models.specs.Bytes.{modelLength}
+use Rattle.formula_models.specs.Answer as formula-models
 use Rattle.texts.specs.Answer as texts
 use Rattle.c_answers.specs.declared.reading.GcRule.{GcRule}
 use Rattle.c_answers.specs.declared.reading.GcModel.{GcModel}
@@ -26,6 +28,7 @@ use Rattle.c_answers.specs.declared.lasting_states.GcLasts.{GcLasts}
 use Rattle.c_answers.specs.declared.searching.GcSearched.{GcSearched}
 use Rattle.c_answers.specs.declared.trimming.GcTrimmed.{GcTrimmed}
 use Rattle.c_answers.specs.declared.converting.GcDone.{GcDone}
+use Rattle.c_answers.specs.declared.modelling.GcWritten.{GcWritten}
 use Rattle.c_answers.specs.declared.texting.GcText.{GcText}
 
 -- yes is 1, no is 0
@@ -92,6 +95,10 @@ trimmedNumbers (trims.refused n p) = record { refused = n; place = p; weight = 0
 abbrev pub doneNumbers : rows.Result → GcDone
 doneNumbers rows.converted = record { refused = 0; place = 0 }
 doneNumbers (rows.refused n p) = record { refused = n; place = p }
+
+abbrev pub writtenNumbers : formula-models.Result → GcWritten
+writtenNumbers formula-models.written = record { refused = 0; place = 0; length = modelLength }
+writtenNumbers (formula-models.refused n p) = record { refused = n; place = p; length = 0 }
 
 abbrev pub textNumbers : texts.Result → GcText
 textNumbers (texts.given n k) = record { refused = 0; place = 0; length = n; weight = k .weight; uses = k .uses }

@@ -2,6 +2,7 @@
 // `refused` is 0 for an answer, else the refusal's number with its place, and the rest is 0.
 
 pub mod reading; // a rule, a model
+pub mod modelling; // the model of two formulas
 pub mod building; // a rule's table
 pub mod judging; // the plain judge
 pub mod stepping; // a walker

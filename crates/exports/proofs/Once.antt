@@ -29,8 +29,8 @@ use Rattle.c_answers.specs.declared.stepping.GcStepped.{GcStepped}
 use Rattle.c_answers.specs.declared.following.GcMoved.{GcMoved}
 use Rattle.c_answers.specs.declared.lasting_states.GcLasts.{GcLasts}
 use Rattle.c_answers.specs.declared.searching.GcSearched.{GcSearched}
-use Rattle.c_answers.specs.Numbers.{ruleNumbers, modelNumbers, builtNumbers, judgedNumbers, steppedNumbers, movedNumbers, lastingNumbers, searchedNumbers, textNumbers, doneNumbers, walkerOf, walkerNumbers, beside, trimmedNumbers}
-use Rattle.exports.specs.Promise.{GcBuilds, GcJudges, GcLasting, GcSearches, ReadsText, WritesText, GcTrims, GcRowsOf, GcTableOf, GcSearchesTrimmed}
+use Rattle.c_answers.specs.Numbers.{ruleNumbers, modelNumbers, builtNumbers, judgedNumbers, steppedNumbers, movedNumbers, lastingNumbers, searchedNumbers, textNumbers, doneNumbers, writtenNumbers, walkerOf, walkerNumbers, beside, trimmedNumbers}
+use Rattle.exports.specs.Promise.{GcBuilds, GcJudges, GcLasting, GcSearches, ReadsText, WritesText, GcTrims, GcModels, GcRowsOf, GcTableOf, GcSearchesTrimmed}
 use Rattle.trims.specs.declared.TrimAnswer.{TrimAnswer}
 use Rattle.trims.specs.Answer as trims
 use Rattle.trims.proofs.Once as trims-once
@@ -38,6 +38,10 @@ use Rattle.letter_rows.specs.declared.ConvertAnswer.{ConvertAnswer}
 use Rattle.letter_rows.specs.Answer as rows
 use Rattle.letter_rows.specs.Layouts.{tableBy}
 use Rattle.letter_rows.proofs.Once as rows-once
+use Rattle.formula_models.specs.declared.FormulasAnswer.{FormulasAnswer}
+use Rattle.formula_models.specs.Answer as formula-models
+use Rattle.formula_models.proofs.Once as models-once
+use Rattle.c_answers.specs.declared.modelling.GcWritten.{GcWritten}
 use Rattle.c_answers.specs.declared.converting.GcDone.{GcDone}
 use Rattle.trimmed_search.proofs.Once.{one-trimmed-answer}
 use Rattle.c_answers.specs.declared.trimming.GcTrimmed.{GcTrimmed}
@@ -83,6 +87,11 @@ pub one-table-of : (t before u v : List ℕ) (r r′ : GcDone) → GcTableOf t b
 one-table-of t before u v r r′ x x′ =
     let o = rows-once.one-answer (x .answer) (x′ .answer) (x .right) (x′ .right) in
     (x .given ∙ ap (λ (a : ConvertAnswer). doneNumbers (rows.told a)) (o .0) ∙ sym (x′ .given), o .1)
+
+pub one-formula-model : (s before u v : List ℕ) (r r′ : GcWritten) → GcModels s before u r → GcModels s before v r′ → (r ≡ r′) × (u ≡ v)
+one-formula-model s before u v r r′ x x′ =
+    let o = models-once.one-answer (x .answer) (x′ .answer) (x .right) (x′ .right) in
+    (x .given ∙ ap (λ (a : FormulasAnswer). writtenNumbers (formula-models.told a)) (o .0) ∙ sym (x′ .given), o .1)
 
 pub one-build : (s t u v : List ℕ) (r r′ : GcBuilt) → Words u → Words v → GcBuilds s t u r → GcBuilds s t v r′ → (r ≡ r′) × (u ≡ v)
 one-build s t u v r r′ hu hv b b′ =

@@ -16,6 +16,8 @@ use Rattle.trims.specs.Answer as trims
 use Rattle.trimmed_search.specs.Answer.{TrimmedSearchRight}
 use Rattle.letter_rows.specs.declared.ConvertAnswer.{ConvertAnswer}
 use Rattle.letter_rows.specs.Answer as rows
+use Rattle.formula_models.specs.declared.FormulasAnswer.{FormulasAnswer}
+use Rattle.formula_models.specs.Answer as formula-models
 use Rattle.texts.specs.declared.TextAnswer.{TextAnswer}
 use Rattle.texts.specs.Answer as texts
 use Rattle.c_answers.specs.declared.building.GcBuilt.{GcBuilt}
@@ -24,8 +26,9 @@ use Rattle.c_answers.specs.declared.lasting_states.GcLasts.{GcLasts}
 use Rattle.c_answers.specs.declared.searching.GcSearched.{GcSearched}
 use Rattle.c_answers.specs.declared.trimming.GcTrimmed.{GcTrimmed}
 use Rattle.c_answers.specs.declared.converting.GcDone.{GcDone}
+use Rattle.c_answers.specs.declared.modelling.GcWritten.{GcWritten}
 use Rattle.c_answers.specs.declared.texting.GcText.{GcText}
-use Rattle.c_answers.specs.Numbers.{builtNumbers, doneNumbers, judgedNumbers, lastingNumbers, searchedNumbers, textNumbers, trimmedNumbers}
+use Rattle.c_answers.specs.Numbers.{builtNumbers, doneNumbers, judgedNumbers, lastingNumbers, searchedNumbers, textNumbers, trimmedNumbers, writtenNumbers}
 
 -- gc_build: the rule's bytes s, and the table slice before and after
 pub record GcBuilds (s t t′ : List ℕ) (r : GcBuilt) : Type 0 where
@@ -56,6 +59,12 @@ pub record GcTrims (t t′ : List ℕ) (n f : ℕ) (r : GcTrimmed) : Type 0 wher
   pub answer : TrimAnswer
   pub right : trims.TrimRight t t′ n f (trims.told answer)
   pub given : r ≡ trimmedNumbers (trims.told answer)
+
+-- gc_formula_model: the formulas' bytes s, and the slice of the model before and after
+pub record GcModels (s before after : List ℕ) (r : GcWritten) : Type 0 where
+  pub answer : FormulasAnswer
+  pub right : formula-models.FormulasRight s before after (formula-models.told answer)
+  pub given : r ≡ writtenNumbers (formula-models.told answer)
 
 -- gc_rows_of: the table, and the slice of the rows before and after
 pub record GcRowsOf (table before after : List ℕ) (r : GcDone) : Type 0 where

@@ -2,6 +2,7 @@
 // An answer is a struct of numbers by value; a slice is passed as a pointer and a length.
 
 mod reading; // a rule, a model
+mod modelling; // the model of two formulas
 mod building; // a rule's table
 mod judging; // the plain judge
 mod stepping; // a walker

@@ -5,9 +5,9 @@ ghost use Prim.Native.Nat.{_+_, _-_, _^_, _≤_};
 ghost use lib.ListN.{length, getD};
 ghost use Rattle.bits.specs.Word.{bit, word};
 ghost use Rattle.formula_models.specs.inner.Rows.{modelStates, allIf, joinWords, RowPut, RowsRoom, RowsAt};
-use formulas::label_at;
 use definitions::kinds::FormulaKind;
 use definitions::kinds::Junction;
+use formulas::label_at;
 use systems::kinds::SystemKind;
 use systems::kinds::kind_of;
 

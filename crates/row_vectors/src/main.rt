@@ -3,6 +3,8 @@
 ghost use mathlib.Core.Path.{_≡_};
 ghost use Rattle.walkers.specs.Steps.{told, stepOf};
 ghost use Rattle.letter_rows.specs.Layouts.{tableBy};
+use automata::STATES;
+use automata::TABLE_ENTRIES;
 use letter_rows::ConvertAnswer;
 use letter_rows::rows_of;
 use letter_rows::table_of;
@@ -10,8 +12,6 @@ use libc::STDOUT_FILENO;
 use row_walkers::follow_rows;
 use row_walkers::step_rows;
 use row_walkers::step_rows_lent;
-use automata::STATES;
-use automata::TABLE_ENTRIES;
 use tables::TableAnswer;
 use trims::TrimAnswer;
 use walkers::FollowAnswer;
