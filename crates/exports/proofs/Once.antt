@@ -90,7 +90,7 @@ one-table-of t before u v r r′ x x′ =
 
 pub one-formula-model : (s before u v : List ℕ) (r r′ : GcWritten) → GcModels s before u r → GcModels s before v r′ → (r ≡ r′) × (u ≡ v)
 one-formula-model s before u v r r′ x x′ =
-    let o = models-once.one-answer (x .answer) (x′ .answer) (x .right) (x′ .right) in
+    let o = models-once.one-answer s before u v (x .answer) (x′ .answer) (x .right) (x′ .right) in
     (x .given ∙ ap (λ (a : FormulasAnswer). writtenNumbers (formula-models.told a)) (o .0) ∙ sym (x′ .given), o .1)
 
 pub one-build : (s t u v : List ℕ) (r r′ : GcBuilt) → Words u → Words v → GcBuilds s t u r → GcBuilds s t v r′ → (r ≡ r′) × (u ≡ v)
