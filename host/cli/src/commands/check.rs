@@ -1,0 +1,171 @@
+//! `check`: a line for each rule.
+
+use super::RULE;
+use crate::args::Check;
+use crate::files::{self, called, is_standard};
+use crate::json;
+use crate::model::Model;
+use crate::output::{complain, warn, Out};
+use crate::rules::{self, Ready, Typed};
+use crate::trouble::{End, Trouble};
+use crate::verdict::{search, Run, Verdict};
+use crate::warnings::{Surveyed, Warning};
+use crate::Status;
+use gongcollar::Workspace;
+use indicatif::{ProgressBar, ProgressDrawTarget, ProgressStyle};
+
+/// From how many rules on progress is shown.
+const MANY: usize = 100;
+
+pub fn run(args: &Check, out: &mut Out) -> Result<Status, End> {
+    let model = files::model(&args.model.path, args.model.bytes)?;
+    let rules = typed(args)?;
+    let mut workspace = Workspace::new();
+    let surveyed = Surveyed::new(&model, &mut workspace)?;
+    let of_model = surveyed.of_model();
+    let source = called(&args.model.path);
+    if !args.no_warnings {
+        of_model
+            .iter()
+            .for_each(|warning| warn(format!("{source}: {warning}")));
+    }
+    let answers = answers(
+        &rules,
+        args.place.anywhere,
+        &surveyed,
+        &model,
+        &mut workspace,
+    )?;
+    let mut status = Status::Nothing;
+    for (verdict, warnings) in &answers {
+        status = status.max(status_of(verdict));
+        tell_beside(verdict, if args.no_warnings { &[] } else { warnings });
+        match args.json {
+            true => out.line(json::object(
+                verdict,
+                &model,
+                &[&of_model[..], warnings].concat(),
+            )?)?,
+            false => out.line(line(verdict, &model))?,
+        }
+    }
+    Ok(status)
+}
+
+/// The rules of the arguments, then those of the file.
+fn typed(args: &Check) -> Result<Vec<Typed>, Trouble> {
+    let several = args.rules.len() > 1;
+    let argued = args
+        .rules
+        .iter()
+        .enumerate()
+        .map(|(at, text)| match several {
+            true => rules::argument(&format!("{RULE} {}", at + 1), text),
+            false => rules::argument(RULE, text),
+        });
+    let mut typed: Vec<Typed> = argued.collect();
+    if let Some(path) = &args.file {
+        if is_standard(path) && is_standard(&args.model.path) {
+            return Err(Trouble::new(
+                "model and rules cannot both come from standard input",
+            ));
+        }
+        typed.extend(rules::file(&called(path), &files::rules(path)?)?);
+    }
+    Ok(typed)
+}
+
+type Answer = (Verdict, Vec<Warning>);
+
+/// What becomes of each rule, with a bar on a terminal if there are many.
+fn answers(
+    rules: &[Typed],
+    anywhere: bool,
+    surveyed: &Surveyed,
+    model: &Model,
+    workspace: &mut Workspace,
+) -> Result<Vec<Answer>, Trouble> {
+    let bar = progress(rules.len());
+    let mut answers = Vec::with_capacity(rules.len());
+    for typed in rules {
+        answers.push(match Ready::read(typed, model.names(), anywhere) {
+            Err(refused) => (Verdict::Refused(refused), Vec::new()),
+            Ok(ready) => searched(ready, surveyed, model, workspace)?,
+        });
+        bar.inc(1);
+    }
+    bar.finish_and_clear();
+    Ok(answers)
+}
+
+fn searched(
+    ready: Ready,
+    surveyed: &Surveyed,
+    model: &Model,
+    workspace: &mut Workspace,
+) -> Result<Answer, Trouble> {
+    let verdict = search(ready, model, workspace)?;
+    let warnings = match &verdict {
+        Verdict::Refused(_) => Vec::new(),
+        Verdict::None { ready, pairs } | Verdict::Found { ready, pairs, .. } => {
+            surveyed.of_rule(ready, *pairs)?
+        }
+    };
+    Ok((verdict, warnings))
+}
+
+/// A bar on standard error; it shows itself on a terminal alone.
+fn progress(rules: usize) -> ProgressBar {
+    if rules < MANY {
+        return ProgressBar::hidden();
+    }
+    let bar = ProgressBar::with_draw_target(Some(rules as u64), ProgressDrawTarget::stderr());
+    match ProgressStyle::with_template("{bar:40} {pos} of {len} rules, {eta} left") {
+        Ok(style) => bar.with_style(style),
+        Err(_) => bar,
+    }
+}
+
+fn status_of(verdict: &Verdict) -> Status {
+    match verdict {
+        Verdict::Refused(_) => Status::Trouble,
+        Verdict::None { .. } => Status::Nothing,
+        Verdict::Found { .. } => Status::Found,
+    }
+}
+
+/// What is said of a rule on standard error.
+fn tell_beside(verdict: &Verdict, warnings: &[Warning]) {
+    if let Verdict::Refused(refused) = verdict {
+        complain(&refused.trouble);
+    }
+    for warning in warnings {
+        warn(format!("{}: {warning}", verdict.typed().called()));
+    }
+}
+
+/// The line of one rule.
+fn line(verdict: &Verdict, model: &Model) -> String {
+    let said = match verdict {
+        Verdict::Refused(_) => "refused".into(),
+        Verdict::None { pairs, .. } => format!("none; pairs {pairs}"),
+        Verdict::Found { run, pairs, .. } => format!("found: {}; pairs {pairs}", told(run, model)),
+    };
+    format!("{}: {said}", verdict.typed().called())
+}
+
+/// A run in names: its states with what holds there, and where it matched.
+fn told(run: &Run, model: &Model) -> String {
+    let names = model.names();
+    let states = run.states.iter().zip(&run.letters);
+    let states: Vec<String> = states
+        .map(|(&state, &letter)| format!("{} {}", names.state(state), names.letter(letter)))
+        .collect();
+    let last = run.states.len();
+    let place = |at: usize| format!("{at} ({})", names.state(run.states[at - 1]));
+    let matched = match run.before < last {
+        true => format!("matched from {} to {}", place(run.before + 1), place(last)),
+        false => format!("matched nothing after {}", place(last)),
+    };
+    format!("{}; {matched}", states.join(" -> "))
+}
