@@ -8,10 +8,10 @@ const ABOUT: &str = "Checks sequence rules against a model of jobs";
 const LONG_ABOUT: &str = "\
 Checks sequence rules against a model of jobs.
 
-A model has states; in each some propositions hold, and each goes to others. A rule is a forbidden order of events. \
-`check` tells for each rule whether some run of the model matches it, and shows a shortest one, or says that no run of \
-any length does. Only runs that can be continued for ever count. What is decided is decided by a library of which \
-every function is proved; this program adds names, files and pictures.";
+A model has states; in each some propositions hold, and each goes to others. A rule is a forbidden order
+of events. `check` tells for each rule whether some run of the model matches it, and shows a shortest one,
+or says that no run of any length does. Only runs that can be continued for ever count. What is decided
+is decided by a library of which every function is proved; this program adds names, files and pictures.";
 
 const AFTER: &str = "\
 A model as text:

@@ -31,7 +31,7 @@ pub fn model(model: &Model, reached: u64, title: &str, run: Option<&Run>) -> Str
         text += &format!("    s{at} [label=\"{label}\"{look}];\n");
         if state.initial {
             text +=
-                &format!("    i{at} [shape=point, width=0.08, label=\"\"];\n    i{at} -> s{at};\n");
+                &format!("    i{at} [shape=point, width=0.08, fillcolor=\"black\", label=\"\"];\n    i{at} -> s{at};\n");
         }
     }
     for (from, state) in states.iter().enumerate() {
@@ -103,7 +103,8 @@ fn way(from: usize, to: usize, colours: &Colours, reached: bool) -> String {
 pub fn table(table: &Table, names: &Names, title: &str) -> String {
     let mut text = beginning("table", title);
     let weight = (table.weight() as usize).min(STATES);
-    text += "    start [shape=point, width=0.08, label=\"\"];\n    start -> q0;\n";
+    text +=
+        "    start [shape=point, width=0.08, fillcolor=\"black\", label=\"\"];\n    start -> q0;\n";
     for at in 0..weight {
         let shape = if table.finals() >> at & 1 == 1 {
             "doublecircle"

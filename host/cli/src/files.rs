@@ -49,7 +49,8 @@ fn whole(path: &Path, most: u64) -> Result<Vec<u8>, Trouble> {
     }
 }
 
-fn text(path: &Path, most: u64) -> Result<String, Trouble> {
+/// A whole file as text; the hint helps where it is none.
+fn text(path: &Path, most: u64, hint: &str) -> Result<String, Trouble> {
     String::from_utf8(whole(path, most)?).map_err(|error| {
         let good = error.utf8_error().valid_up_to();
         let line = error.as_bytes()[..good]
@@ -57,7 +58,7 @@ fn text(path: &Path, most: u64) -> Result<String, Trouble> {
             .filter(|&&byte| byte == b'\n')
             .count()
             + 1;
-        Trouble::new(format!("{}: line {line} is no text", called(path)))
+        Trouble::new(format!("{}: line {line} is no text", called(path))).hint(hint)
     })
 }
 
@@ -71,13 +72,11 @@ pub fn model(path: &Path, bytes: bool) -> Result<Model, Trouble> {
     {
         return Model::from_bytes(&source, &whole(path, MODEL_BYTES)?);
     }
-    let text = text(path, MODEL_BYTES).map_err(|trouble| {
-        trouble.hint("a model's bytes are read with --bytes, or from a file that ends in .gcm")
-    })?;
-    Model::from_text(&source, &text)
+    let hint = "a model's bytes are read with --bytes, or from a file that ends in .gcm";
+    Model::from_text(&source, &text(path, MODEL_BYTES, hint)?)
 }
 
 /// The text of a file of rules.
 pub fn rules(path: &Path) -> Result<String, Trouble> {
-    text(path, RULES_BYTES)
+    text(path, RULES_BYTES, "expected a line for each rule, in UTF-8")
 }

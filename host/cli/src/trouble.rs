@@ -41,7 +41,7 @@ impl Place {
     /// The line, and below it a caret under each character of the stretch.
     fn excerpt(&self) -> (String, String) {
         let before = self.before().chars().count();
-        let skipped = if before > BEFORE { before - BEFORE } else { 0 };
+        let skipped = before.saturating_sub(BEFORE);
         let shown: String = self.text.chars().skip(skipped).take(SHOWN).collect();
         let cut = if skipped > 0 { ".." } else { "" };
         let left = self.text.chars().count() - skipped;
@@ -81,7 +81,7 @@ pub struct Trouble {
     /// What is wrong.
     pub what: String,
     /// Where.
-    pub place: Option<Place>,
+    pub place: Option<Box<Place>>,
     /// What was expected, or what helps.
     pub hints: Vec<String>,
 }
@@ -99,7 +99,7 @@ impl Trouble {
     /// Trouble at a place.
     pub fn at(place: Place, what: impl Into<String>) -> Trouble {
         Trouble {
-            place: Some(place),
+            place: Some(Box::new(place)),
             ..Trouble::new(what)
         }
     }

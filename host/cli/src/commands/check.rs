@@ -20,33 +20,24 @@ const MANY: usize = 100;
 pub fn run(args: &Check, out: &mut Out) -> Result<Status, End> {
     let model = files::model(&args.model.path, args.model.bytes)?;
     let rules = typed(args)?;
-    let mut workspace = Workspace::new();
-    let surveyed = Surveyed::new(&model, &mut workspace)?;
-    let of_model = surveyed.of_model();
-    let source = called(&args.model.path);
-    if !args.no_warnings {
-        of_model
-            .iter()
-            .for_each(|warning| warn(format!("{source}: {warning}")));
+    let mut checker = Checker::new(args, &model)?;
+    let of_model = match checker.warns {
+        true => checker.surveyed.of_model(),
+        false => Vec::new(),
+    };
+    for warning in &of_model {
+        warn(format!("{}: {warning}", called(&args.model.path)));
     }
-    let answers = answers(
-        &rules,
-        args.place.anywhere,
-        &surveyed,
-        &model,
-        &mut workspace,
-    )?;
     let mut status = Status::Nothing;
-    for (verdict, warnings) in &answers {
-        status = status.max(status_of(verdict));
-        tell_beside(verdict, if args.no_warnings { &[] } else { warnings });
+    for (verdict, warnings) in checker.answers(&rules)? {
+        status = status.max(status_of(&verdict));
+        tell_beside(&verdict, &warnings);
         match args.json {
-            true => out.line(json::object(
-                verdict,
-                &model,
-                &[&of_model[..], warnings].concat(),
-            )?)?,
-            false => out.line(line(verdict, &model))?,
+            true => {
+                let warnings = [&of_model[..], &warnings].concat();
+                out.line(json::object(&verdict, &model, &warnings)?)?;
+            }
+            false => out.line(line(&verdict, &model))?,
         }
     }
     Ok(status)
@@ -75,43 +66,56 @@ fn typed(args: &Check) -> Result<Vec<Typed>, Trouble> {
     Ok(typed)
 }
 
+/// What became of a rule, and what is probably not meant by it.
 type Answer = (Verdict, Vec<Warning>);
 
-/// What becomes of each rule, with a bar on a terminal if there are many.
-fn answers(
-    rules: &[Typed],
+/// What all rules of a call share.
+struct Checker<'a> {
+    model: &'a Model,
+    surveyed: Surveyed<'a>,
+    workspace: Workspace,
     anywhere: bool,
-    surveyed: &Surveyed,
-    model: &Model,
-    workspace: &mut Workspace,
-) -> Result<Vec<Answer>, Trouble> {
-    let bar = progress(rules.len());
-    let mut answers = Vec::with_capacity(rules.len());
-    for typed in rules {
-        answers.push(match Ready::read(typed, model.names(), anywhere) {
-            Err(refused) => (Verdict::Refused(refused), Vec::new()),
-            Ok(ready) => searched(ready, surveyed, model, workspace)?,
-        });
-        bar.inc(1);
-    }
-    bar.finish_and_clear();
-    Ok(answers)
+    warns: bool,
 }
 
-fn searched(
-    ready: Ready,
-    surveyed: &Surveyed,
-    model: &Model,
-    workspace: &mut Workspace,
-) -> Result<Answer, Trouble> {
-    let verdict = search(ready, model, workspace)?;
-    let warnings = match &verdict {
-        Verdict::Refused(_) => Vec::new(),
-        Verdict::None { ready, pairs } | Verdict::Found { ready, pairs, .. } => {
-            surveyed.of_rule(ready, *pairs)?
+impl<'a> Checker<'a> {
+    fn new(args: &Check, model: &'a Model) -> Result<Checker<'a>, Trouble> {
+        let mut workspace = Workspace::new();
+        Ok(Checker {
+            model,
+            surveyed: Surveyed::new(model, &mut workspace)?,
+            workspace,
+            anywhere: args.place.anywhere,
+            warns: !args.no_warnings,
+        })
+    }
+
+    /// What becomes of each rule, with a bar on a terminal if there are many.
+    fn answers(&mut self, rules: &[Typed]) -> Result<Vec<Answer>, Trouble> {
+        let bar = progress(rules.len());
+        let mut answers = Vec::with_capacity(rules.len());
+        for typed in rules {
+            answers.push(self.answer(typed)?);
+            bar.inc(1);
         }
-    };
-    Ok((verdict, warnings))
+        bar.finish_and_clear();
+        Ok(answers)
+    }
+
+    fn answer(&mut self, typed: &Typed) -> Result<Answer, Trouble> {
+        let ready = match Ready::read(typed, self.model.names(), self.anywhere) {
+            Ok(ready) => ready,
+            Err(refused) => return Ok((Verdict::Refused(refused), Vec::new())),
+        };
+        let verdict = search(ready, self.model, &mut self.workspace)?;
+        let warnings = match &verdict {
+            Verdict::None { ready, pairs } | Verdict::Found { ready, pairs, .. } if self.warns => {
+                self.surveyed.of_rule(ready, *pairs)?
+            }
+            _ => Vec::new(),
+        };
+        Ok((verdict, warnings))
+    }
 }
 
 /// A bar on standard error; it shows itself on a terminal alone.
@@ -162,7 +166,10 @@ fn told(run: &Run, model: &Model) -> String {
         .map(|(&state, &letter)| format!("{} {}", names.state(state), names.letter(letter)))
         .collect();
     let last = run.states.len();
-    let place = |at: usize| format!("{at} ({})", names.state(run.states[at - 1]));
+    let place = |at: usize| match names.state_name(run.states[at - 1]) {
+        Some(name) => format!("{at} ({name})"),
+        None => format!("{at} (state {})", run.states[at - 1]),
+    };
     let matched = match run.before < last {
         true => format!("matched from {} to {}", place(run.before + 1), place(last)),
         false => format!("matched nothing after {}", place(last)),

@@ -55,19 +55,17 @@ fn tell_first(walker: &Walker, line: Option<usize>, out: &mut Out) -> Result<(),
 }
 
 fn tell_end(walker: &Walker, out: &mut Out) -> Result<Status, End> {
-    let matched = if walker.matches() {
-        "all of them match"
-    } else {
-        "all of them do not match"
-    };
-    out.line(format!("end after {}: {matched}", counted(walker.taken())))?;
-    match walker.first_match() {
-        Some(_) => Ok(Status::Found),
-        None => {
-            out.line("no match")?;
-            Ok(Status::Nothing)
-        }
+    let events = counted(walker.taken());
+    if walker.first_match().is_none() {
+        out.line(format!("no match in {events}"))?;
+        return Ok(Status::Nothing);
     }
+    let matches = match walker.matches() {
+        true => "matches",
+        false => "does not match",
+    };
+    out.line(format!("end after {events}; the whole row {matches}"))?;
+    Ok(Status::Found)
 }
 
 fn counted(events: u32) -> String {

@@ -1,9 +1,11 @@
 //! The reader of models as text.
 //!
-//!     propositions expire thin write        # names for p0, p1, p2; optional
-//!     state idle initial: expire -> idle busy
-//!     state busy: thin -> busy done
-//!     state done: write -> idle
+//! ```text
+//! propositions expire thin write        # names for p0, p1, p2; optional
+//! state idle initial: expire -> idle busy
+//! state busy: thin -> busy done
+//! state done: write -> idle
+//! ```
 
 use super::{RECORD, STATE_KIND};
 use crate::names::{clash, in_words, is_name, Names, PROPOSITIONS};
@@ -217,7 +219,12 @@ impl<'a> Drawing<'a> {
         let mut words = Words { line, words, at: 0 };
         let name = self.take_name(&mut words)?;
         let initial = words.takes(INITIAL_WORD);
-        words.needs(":", "a name, `initial` or `:`")?;
+        let before_colon = match (&name, initial) {
+            (_, true) => "`:`",
+            (Some(_), false) => "`initial` or `:`",
+            (None, false) => "a name, `initial` or `:`",
+        };
+        words.needs(":", before_colon)?;
         let names = Names::new(self.propositions.clone().unwrap_or_default(), Vec::new());
         let letter = take_letter(&mut words, &names)?;
         words.needs("->", &format!("{}, or `->`", names.propositions_in_words()))?;
@@ -279,7 +286,10 @@ impl<'a> Drawing<'a> {
                 return Err(state
                     .line
                     .trouble(word, format!("no state is called `{}`", word.text))
-                    .hint(format!("expected one of: {}", self.callings().join(", "))));
+                    .hint(format!(
+                        "expected one of: {}, or a state's number",
+                        self.callings().join(", ")
+                    )));
             };
             let bit = 1u64 << successor;
             if set & bit != 0 {

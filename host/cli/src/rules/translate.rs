@@ -1,6 +1,6 @@
 //! Proposition names in a rule become p0 to p5, and places lead back to what was typed.
 
-use crate::names::{in_words, is_name, numbered, Names};
+use crate::names::{in_words, numbered, Names};
 use std::ops::Range;
 
 /// A rule in the proved reader's own words.
@@ -23,7 +23,9 @@ pub fn translate(typed: &str, names: &Names) -> Translated {
     };
     let mut start = 0;
     while let Some(rest) = typed.get(start..).filter(|rest| !rest.is_empty()) {
-        let length = match rest.find(|c| !in_words(c)).unwrap_or(rest.len()) {
+        // Letters of all kinds hang together, so that no part of a word is taken for a name.
+        let in_word = |c: char| c.is_alphanumeric() || in_words(c);
+        let length = match rest.find(|c| !in_word(c)).unwrap_or(rest.len()) {
             0 => rest.chars().next().map_or(1, char::len_utf8),
             word => word,
         };
@@ -44,7 +46,8 @@ impl Translated {
                 self.text += &number;
             }
             None => {
-                if is_name(part) && !["true", "false"].contains(&part) {
+                let word = part.starts_with(|c: char| c.is_alphabetic() || c == '_');
+                if word && !["true", "false"].contains(&part) {
                     self.unknown.push(start..start + part.len());
                 }
                 self.places.extend((0..part.len()).map(|at| start + at));
@@ -127,9 +130,9 @@ mod tests {
 
     #[test]
     fn other_characters_stay() {
-        let rule = translate("{é thin}", &names());
-        assert_eq!(rule.text, "{é p1}");
-        assert_eq!(rule.typed(rule.text.len()), "{é thin}".len());
+        let rule = translate("{é thin;théthin}", &names());
+        assert_eq!(rule.text, "{é p1;théthin}");
+        assert_eq!(rule.typed(rule.text.len()), "{é thin;théthin}".len());
     }
 
     #[test]

@@ -1,0 +1,9 @@
+//! The built program, run as a user runs it.
+
+mod pictures;
+mod readme;
+mod shell;
+mod streams;
+mod texts;
+mod thousand;
+mod transcripts;
