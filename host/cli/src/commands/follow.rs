@@ -3,7 +3,7 @@
 use super::{names, rule};
 use crate::args::Follow;
 use crate::events::event;
-use crate::files::{self, called};
+use crate::files::{self, called, is_standard};
 use crate::names::Names;
 use crate::output::Out;
 use crate::trouble::{End, Place, Trouble};
@@ -17,6 +17,10 @@ use std::io::{BufRead, BufReader, Read};
 const LINE_BYTES: u64 = 1 << 16;
 
 pub fn run(args: &Follow, out: &mut Out) -> Result<Status, End> {
+    let from = args.names.names.as_deref();
+    if from.is_some_and(is_standard) && is_standard(&args.file) {
+        return Err(Trouble::new("names and events cannot both come from standard input").into());
+    }
     let names = names(&args.names)?;
     let ready = rule(&args.rule, &names, &args.place)?;
     let table = Table::build(ready.searched.bytes()).map_err(unexpected)?;

@@ -1,6 +1,7 @@
 //! Rules from arguments and from files: `name: rule`, a line each, comments behind `#`.
 
 use crate::trouble::{visible, Place, Trouble};
+use std::collections::HashMap;
 
 /// A rule as it was typed, and where.
 #[derive(Debug, Clone, PartialEq, Eq)]
@@ -56,7 +57,8 @@ pub fn argument(source: &str, text: &str) -> Typed {
 pub fn file(source: &str, text: &str) -> Result<Vec<Typed>, Trouble> {
     let text = text.strip_prefix('\u{FEFF}').unwrap_or(text);
     let mut rules: Vec<Typed> = Vec::new();
-    for (number, line) in text.lines().enumerate() {
+    let mut lines: HashMap<String, usize> = HashMap::new();
+    for (number, line) in (1..).zip(text.lines()) {
         // No rule has a `#`.
         let said = line.split('#').next().unwrap_or(line);
         if said.trim().is_empty() {
@@ -64,24 +66,24 @@ pub fn file(source: &str, text: &str) -> Result<Vec<Typed>, Trouble> {
         }
         let rule = Typed {
             whole: line.into(),
-            ..typed(source, Some(number + 1), said)
+            ..typed(source, Some(number), said)
         };
-        if let Some(before) = rules
-            .iter()
-            .find(|other| rule.name.is_some() && other.name == rule.name)
+        if let Some(before) = rule
+            .name
+            .clone()
+            .and_then(|name| lines.insert(name, number))
         {
-            let place = rule.name_place();
             let what = format!("two rules are called `{}`", rule.called());
-            let hint = format!("the other stands in line {}", before.line.unwrap_or(0));
-            return Err(Trouble::at(place, what).hint(hint));
+            return Err(Trouble::at(rule.name_place(), what)
+                .hint(format!("the other stands in line {before}")));
         }
         rules.push(rule);
     }
-    match rules.is_empty() {
-        true => Err(Trouble::new(format!("{source}: there is no rule"))
-            .hint("expected a line each, as `order: {p0;p1}`")),
-        false => Ok(rules),
+    if rules.is_empty() {
+        return Err(Trouble::new(format!("{source}: there is no rule"))
+            .hint("expected a line each, as `order: {p0;p1}`"));
     }
+    Ok(rules)
 }
 
 fn typed(source: &str, line: Option<usize>, said: &str) -> Typed {
