@@ -1,12 +1,13 @@
 //! A JSON object for each rule, a line each.
 
 use crate::model::Model;
+use crate::rules;
 use crate::trouble::Trouble;
 use crate::verdict::{Run, Verdict};
 use crate::warnings::Warning;
 use serde::Serialize;
 
-#[derive(Serialize)]
+#[derive(Default, Serialize)]
 struct Told<'a> {
     name: Option<&'a str>,
     rule: &'a str,
@@ -63,25 +64,13 @@ pub fn object(verdict: &Verdict, model: &Model, warnings: &[Warning]) -> Result<
         name: typed.name.as_deref(),
         rule: &typed.text,
         line: typed.line(),
-        verdict: "refused",
-        text: None,
-        weight: None,
-        uses: None,
-        pairs: None,
-        run: None,
-        matched: None,
-        refusal: None,
         warnings,
+        ..Told::default()
     };
     match verdict {
         Verdict::Refused(refused) => {
-            told.refusal = Some(Refused {
-                number: refused.refusal.map(|refusal| refusal.number()),
-                place: refused.offset,
-                column: refused.trouble.place.as_ref().map(|place| place.column()),
-                says: &refused.trouble.what,
-                hints: &refused.trouble.hints,
-            });
+            told.verdict = "refused";
+            told.refusal = Some(refusal(refused));
         }
         Verdict::None { ready, pairs } | Verdict::Found { ready, pairs, .. } => {
             told.verdict = "none";
@@ -97,6 +86,16 @@ pub fn object(verdict: &Verdict, model: &Model, warnings: &[Warning]) -> Result<
         told.matched = Some(matched(run));
     }
     serde_json::to_string(&told).map_err(|error| Trouble::slip(format!("no JSON: {error}")))
+}
+
+fn refusal(refused: &rules::Refused) -> Refused<'_> {
+    Refused {
+        number: refused.refusal.map(|refusal| refusal.number()),
+        place: refused.offset,
+        column: refused.trouble.place.as_ref().map(|place| place.column()),
+        says: &refused.trouble.what,
+        hints: &refused.trouble.hints,
+    }
 }
 
 fn steps(run: &Run, model: &Model) -> Vec<Step> {

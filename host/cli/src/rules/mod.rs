@@ -2,6 +2,7 @@
 //! reader alone.
 
 mod expected;
+mod explain;
 mod lines;
 mod read;
 mod translate;
