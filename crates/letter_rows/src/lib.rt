@@ -2,12 +2,14 @@
 ghost use mathlib.Core.Path.{_≡_};
 ghost use Prim.Native.Nat.{_<_, _≤_};
 ghost use lib.ListN.{length};
+ghost use Rattle.bits.specs.Says.{Says};
 ghost use Rattle.definitions.specs.Definition2.{letterCount};
 ghost use Rattle.automata.specs.Table.{tableEntries};
 ghost use Rattle.steps.specs.Moves.{advanced};
 ghost use Rattle.letter_rows.specs.Layouts.{tableBy};
 ghost use Rattle.letter_rows.specs.Refusals.{number, place};
 ghost use Rattle.letter_rows.specs.Answer.{told, RowsRight, TableRight};
+ghost use Rattle.letter_rows.specs.inner.Blocks.{BothLong};
 use automata::STATES;
 use automata::TABLE_ENTRIES;
 use definitions::numbers::SHORT_SLICE;
@@ -48,14 +50,21 @@ pub enum ConvertAnswer {
     Refused(Refusal),
 }
 
+// Whether both slices have the entries of a table.
+fn long_enough(given: &[u64], to: &[u64]) -> bool
+    ensures { λ r. ⌜ Says r (BothLong (now (given .entry)) (now (to .entry))) ⌝ }
+{
+    if given.len() < TABLE_ENTRIES {
+        return false;
+    }
+    TABLE_ENTRIES <= to.len()
+}
+
 // Writes the table's rows by letter: at 64·x + p the set of states that letter x leads to from p.
 pub fn rows_of(table: &[u64], rows: &mut [u64]) -> ConvertAnswer
     ensures { λ r. ⌜ RowsRight (now (table .entry)) (now (rows .entry)) (now (rows .exit)) (told r) ⌝ }
 {
-    if table.len() < TABLE_ENTRIES {
-        return ConvertAnswer::Refused(Refusal::ShortSlice);
-    }
-    if rows.len() < TABLE_ENTRIES {
+    if !long_enough(table, rows) {
         return ConvertAnswer::Refused(Refusal::ShortSlice);
     }
     states::convert(table, rows, STATES, 1);
@@ -66,10 +75,7 @@ pub fn rows_of(table: &[u64], rows: &mut [u64]) -> ConvertAnswer
 pub fn table_of(rows: &[u64], table: &mut [u64]) -> ConvertAnswer
     ensures { λ r. ⌜ TableRight (now (rows .entry)) (now (table .entry)) (now (table .exit)) (told r) ⌝ }
 {
-    if rows.len() < TABLE_ENTRIES {
-        return ConvertAnswer::Refused(Refusal::ShortSlice);
-    }
-    if table.len() < TABLE_ENTRIES {
+    if !long_enough(rows, table) {
         return ConvertAnswer::Refused(Refusal::ShortSlice);
     }
     states::convert(rows, table, 1, STATES);

@@ -9,7 +9,7 @@ use letter_rows::ConvertAnswer;
 use letter_rows::rows_of;
 use letter_rows::table_of;
 use libc::STDOUT_FILENO;
-use row_walkers::follow_rows;
+use row_walkers::sequences::follow_rows;
 use row_walkers::step_rows;
 use row_walkers::step_rows_lent;
 use tables::TableAnswer;

@@ -2,7 +2,6 @@
 use Prim.Native.Nat.{ℕ, _+_, _-_, _^_, _≤_, _<_}
 use mathlib.Core.Path.{_≡_, refl, sym, _∙_}
 use mathlib.Core.Bool.{Bool, true, false, not, cond, _&&_, _||_, false≢true}
-use native.Mathlib.Omega.{arith}
 use lib.Dec.{eqb, ltb, leb}
 use borrow.Author.Tests.{ltb-true, leb-true, le-ltb}
 use Rattle.bits.specs.Word.{bit, any}
@@ -94,31 +93,9 @@ pub power-lt : (r : ℕ) → r < 6 → 2 ^ r < 64
 power-lt r hr = ltb-true (2 ^ r) 64 (every-holds 6 (λ t. ltb (2 ^ t) 64) powers r hr)
 
 -- the mask of the places that lack digit r, by computing
-pub mask-of : (low r : ℕ) → every 64 (λ j. same (bit low j) (not (bit j r))) ≡ true → (j : ℕ) → j < 64 → bit low j ≡ not (bit j r)
+mask-of : (low r : ℕ) → every 64 (λ j. same (bit low j) (not (bit j r))) ≡ true → (j : ℕ) → j < 64 → bit low j ≡ not (bit j r)
 mask-of low r e j l = same-is (bit low j) (not (bit j r)) (every-holds 64 (λ k. same (bit low k) (not (bit k r))) e j l)
 
--- ---- what each round needs
-
-pub half-32 : Half 5 32 4294967295
-unfolding any bit
-half-32 = record { digit = omega arith; power = refl; mask = mask-of 4294967295 5 refl }
-
-pub half-16 : Half 4 16 281470681808895
-unfolding any bit
-half-16 = record { digit = omega arith; power = refl; mask = mask-of 281470681808895 4 refl }
-
-pub half-8 : Half 3 8 71777214294589695
-unfolding any bit
-half-8 = record { digit = omega arith; power = refl; mask = mask-of 71777214294589695 3 refl }
-
-pub half-4 : Half 2 4 1085102592571150095
-unfolding any bit
-half-4 = record { digit = omega arith; power = refl; mask = mask-of 1085102592571150095 2 refl }
-
-pub half-2 : Half 1 2 3689348814741910323
-unfolding any bit
-half-2 = record { digit = omega arith; power = refl; mask = mask-of 3689348814741910323 1 refl }
-
-pub half-1 : Half 0 1 6148914691236517205
-unfolding any bit
-half-1 = record { digit = omega arith; power = refl; mask = mask-of 6148914691236517205 0 refl }
+-- so what a round needs is computed too
+pub half-of : (r half low : ℕ) → r < 6 → half ≡ 2 ^ r → every 64 (λ j. same (bit low j) (not (bit j r))) ≡ true → Half r half low
+half-of r half low h e t = record { digit = h; power = e; mask = mask-of low r t }

@@ -1,27 +1,40 @@
 -- `rows_of` meets its contract. Assumes nothing.
 use mathlib.Core.Path.{refl}
-use mathlib.Core.Logic.{inl, inr}
-use native.Mathlib.Omega.{arith}
+use borrow.Author.Needs.{needs}
+use borrow.Author.Tests.{not-true, not-false}
 use Rattle.letter_rows.specs.Answer.{short-slice}
-use Rattle.letter_rows.specs.inner.Blocks.{by-state}
+use Rattle.letter_rows.specs.inner.Blocks.{by-state, by-letter}
 use Rattle.letter_rows.proofs.Carrying.{rows-whole}
+use Rattle.letter_rows.proofs.Refusing.{one-short}
 use Rattle.letter_rows.proofs.rows_of.Statement.{statement}
 use Rattle.letter_rows.proofs.rows_of.Tie as tie
 
-returns : tie.Need-returns
-returns c = short-slice (inl (omega arith)) refl
-
-returns-2 : tie.Need-returns-2
-returns-2 c = short-slice (inr (omega arith)) refl
-
-convert-requires : tie.Need-convert-requires
-convert-requires c κs = (omega arith, omega arith, by-state refl refl)
+long-enough-requires : tie.Need-long-enough-requires
+long-enough-requires c κs = search needs
 
 same-length : tie.Need-same-length
-same-length c = c .before .before .convert .ensures .rest .size
+same-length c = search needs
 
-returns-3 : tie.Need-returns-3
-returns-3 c = rows-whole (omega arith) (omega arith) (c .before .before .convert .ensures)
+returns : tie.Need-returns
+returns c =
+    let b = c .before .before .before .before .before in
+    short-slice (one-short (b .args .table .now) (b .args .rows .now) (c .before .long-enough .ensures .no-fails (not-true (c .before .long-enough .result) (c .if1 .taken)))) refl
+
+convert-requires : tie.Need-convert-requires
+convert-requires c κs =
+    let b = c .before .before .long-enough .ensures .yes-holds (not-false (c .before .before .long-enough .result) (c .before .if1 .left)) in
+    (b .given-long, b .to-long, search (by-state, by-letter))
+
+same-length-2 : tie.Need-same-length-2
+same-length-2 c = c .before .before .convert .ensures .rest .size
+
+returns-2 : tie.Need-returns-2
+returns-2 c =
+    let l = c .before .before .before .before .before .long-enough in
+    let b = l .ensures .yes-holds (not-false (l .result) (c .before .before .before .before .if1 .left)) in
+    rows-whole (b .given-long) (b .to-long) (c .before .before .convert .ensures)
 
 pub rows-of-spec : {M : Type 1} → statement M
-rows-of-spec = tie.close (tie.spec returns returns-2 convert-requires same-length returns-3)
+rows-of-spec =
+    tie.close
+    (tie.spec long-enough-requires same-length returns convert-requires same-length-2 returns-2)

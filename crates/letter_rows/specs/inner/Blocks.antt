@@ -9,6 +9,11 @@ use Rattle.squares.specs.Squares.{side}
 use Rattle.automata.specs.Table.{tableStates, tableEntries}
 use Rattle.tables.specs.Beyond.{Beyond}
 
+-- both slices have the entries of a table
+pub record BothLong (given to : List ℕ) : Type 0 where
+  pub given-long : tableEntries ≤ length given
+  pub to-long : tableEntries ≤ length to
+
 -- 64 places from base on, step by step, lie in the slice
 abbrev pub Lies : List ℕ → ℕ → ℕ → Type 0
 Lies words base step = (k : ℕ) → k < side → base + step * k < length words

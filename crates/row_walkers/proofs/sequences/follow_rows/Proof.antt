@@ -6,8 +6,8 @@ use Rattle.letter_rows.specs.Layouts.{tableBy}
 use Rattle.walkers.proofs.Answers.{Following, follow-short, following-start, following-turn, follow-refused, follow-ended}
 use Rattle.walkers.proofs.Once.{follows}
 use Rattle.row_walkers.proofs.Alike.{as-long, as-short}
-use Rattle.row_walkers.proofs.follow_rows.Statement.{statement}
-use Rattle.row_walkers.proofs.follow_rows.Tie as tie
+use Rattle.row_walkers.proofs.sequences.follow_rows.Statement.{statement}
+use Rattle.row_walkers.proofs.sequences.follow_rows.Tie as tie
 
 abbrev Inv-loop : tie.InvT-loop
 Inv-loop rows finals letters set₀ i₀ set i = Following (tableBy rows) finals letters set i
