@@ -19,5 +19,5 @@ pub extern "C" fn gc_follow(table: &[u64], finals: u64, letters: &[u8]) -> GcMov
 pub extern "C" fn gc_follow_rows(rows: &[u64], finals: u64, letters: &[u8]) -> GcMoved
     ensures { λ r. ⌜ r ≡ movedNumbers (followOf (tableBy (now (rows .entry))) finals (now (letters .entry))) ⌝ }
 {
-    moved_numbers(row_walkers::follow_rows(rows, finals, letters))
+    moved_numbers(row_walkers::sequences::follow_rows(rows, finals, letters))
 }
