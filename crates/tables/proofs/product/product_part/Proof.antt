@@ -75,7 +75,7 @@ loop-again c =
       omega arith,
       omega (arith, put .put .kept .0),
       put-as (put-step (omega arith) (omega arith) (l .loop .inv .3) (put .put .ensures) (met-at _ _ _ _ _ _ _ (v .get2 .ensures)))
-      refl refl refl (omega arith) (λ x q i. refl),
+          refl refl refl (omega arith) (λ x q i. refl),
     )
 
 same-length : tie.Need-same-length Inv-loop μ-loop
