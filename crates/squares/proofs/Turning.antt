@@ -8,10 +8,11 @@ use mathlib.Core.Bool.{Bool, true, false, cond}
 use mathlib.Core.List.{List}
 use lib.Dec.{eqb, ltb}
 use lib.ListN.{getD}
+use lib.Pow.{pow-pos}
 use borrow.Author.Tests.{lt-ltb, le-ltb, eq-eqb, ne-eqb}
 use Rattle.bits.specs.Word.{bit, word}
-use Rattle.bits.proofs.Laws.{ext, bit-word, word-lt, word-unique}
-use Rattle.squares.specs.inner.Rounds.{placed, turn, mixed, Round}
+use Rattle.bits.proofs.Laws.{ext, bit-zero, bit-word, word-lt, word-unique}
+use Rattle.squares.specs.inner.Rounds.{placed, turn, mixed, Round, Empty}
 use Rattle.squares.specs.Squares.{TurnedOver}
 use Rattle.squares.proofs.Digits.{bit-placed, placed-lt}
 
@@ -70,3 +71,10 @@ module _ {a b c d e f g : List ℕ} (r5 : Round 5 a b 64) (r4 : Round 4 b c 64) 
     size = r0 .size ∙ r1 .size ∙ r2 .size ∙ r3 .size ∙ r4 .size ∙ r5 .size;
     new = λ i l. word-unique 64 (getD g i 0) (λ j. bit (getD a j 0) i) (rw (r0 .new i l) (word-lt 64 (λ j. bit (getD f (turn 0 i j) 0) (turn 0 j i)))) (λ j m. whole-bit i j l m);
   }
+
+-- a square of zeros is its own
+pub empty-over : {a : List ℕ} → Empty a → TurnedOver a a
+empty-over {a} z = record {
+  size = refl;
+  new = λ i l. word-unique 64 (getD a i 0) (λ j. bit (getD a j 0) i) (rw (z .zero-at i l) (pow-pos 64)) (λ j m. ap (λ (w : ℕ). bit w j) (z .zero-at i l) ∙ bit-zero j ∙ sym (bit-zero i) ∙ ap (λ (w : ℕ). bit w i) (sym (z .zero-at j m)));
+}

@@ -2,7 +2,8 @@
 ghost use mathlib.Core.Path.{_≡_};
 ghost use Prim.Native.Nat.{_<_};
 ghost use lib.ListN.{length};
-ghost use Rattle.squares.specs.inner.Rounds.{Half, Round, mixed};
+ghost use Rattle.bits.specs.Says.{Says};
+ghost use Rattle.squares.specs.inner.Rounds.{Half, Round, Empty, mixed};
 ghost use Rattle.squares.specs.Squares.{side, TurnedOver};
 
 // How many words, and how many bits each.
@@ -30,11 +31,27 @@ fn round(from: &[u64], to: &mut [u64], r: usize, half: usize, low: u64)
     }
 }
 
-// All rounds: bit j of word i becomes bit i of word j.
+// Whether every word is 0.
+fn empty(block: &[u64]) -> bool
+    requires { ⌜ length (now block) ≡ side ⌝ }
+    ensures { λ r. ⌜ Says r (Empty (now (block .entry))) ⌝ }
+{
+    for i in 0..SIDE {
+        if block[i] != 0 {
+            return false;
+        }
+    }
+    true
+}
+
+// All rounds: bit j of word i becomes bit i of word j. A square of zeros, as the states outside a weight have, stays what it is.
 pub fn turn_over(block: &mut [u64])
     requires { ⌜ length (now block) ≡ side ⌝ }
     ensures { λ _. ⌜ TurnedOver (now (block .entry)) (now (block .exit)) ⌝ }
 {
+    if empty(block) {
+        return;
+    }
     let mut other = [0u64; SIDE];
     round(block, &mut other, 5, 32, 0x0000_0000_FFFF_FFFF);
     round(&other, block, 4, 16, 0x0000_FFFF_0000_FFFF);

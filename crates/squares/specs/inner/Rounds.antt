@@ -33,3 +33,7 @@ pub record Half (r half low : ℕ) : Type 0 where
   pub digit : r < placeDigits
   pub power : half ≡ 2 ^ r
   pub mask : (j : ℕ) → j < side → bit low j ≡ not (bit j r)
+
+-- every word is 0
+pub record Empty (a : List ℕ) : Type 0 where
+  pub zero-at : (i : ℕ) → i < side → getD a i 0 ≡ 0
