@@ -94,8 +94,8 @@ same-flag true false n e h = absurd (let z = h .0 refl in omega arith)
 same-flag false true n e h = absurd (let z : false ≡ true = h .1 e in let y : _≡_ {A = ℕ} 0 1 = cc in omega arith)
 
 module _ (f g : Formula) where
-  long : length (modelBytes f g) ≡ modelLength
-  long = records-length (holds f) (successors g) modelStates
+  pub model-long : length (modelBytes f g) ≡ modelLength
+  model-long = records-length (holds f) (successors g) modelStates
 
   byte-at : (k j : ℕ) → k < modelStates → j < recordBytes → getD (modelBytes f g) (recordBytes * k + j) 0 ≡ getD (recordOf k (holds f k) (successors g k)) j 0
   byte-at k j h l = record-at (holds f) (successors g) modelStates k j h l
@@ -105,7 +105,7 @@ module _ (f g : Formula) where
 
   good-record : (k : ℕ) → k < modelStates → GoodRecord (modelBytes f g) k
   good-record k h =
-      let n = long in
+      let n = model-long in
       let e = ap (λ (p : ℕ). getD (modelBytes f g) p 0) (sym (add-zero (recordBytes * k))) ∙ byte-at k 0 h (omega arith) in
       let l = byte-at k 1 h (omega arith) in
       let m = byte-at k 2 h (omega arith) in
@@ -113,7 +113,7 @@ module _ (f g : Formula) where
       record { whole = omega arith; kind = e; letter = omega arith; flag = omega arith }
 
   pub are-model-bytes : ModelBytes (modelBytes f g) modelStates
-  are-model-bytes = record { records = record { few = omega arith; long = long; good = good-record }; linked = λ k h t l b. l }
+  are-model-bytes = record { records = record { few = omega arith; long = model-long; good = good-record }; linked = λ k h t l b. l }
 
   -- accepted, as the model that the formulas say
   pub is-a-model : models.answer (modelBytes f g) .verdict ≡ models.accepted
@@ -131,4 +131,4 @@ module _ (f g : Formula) where
 
 -- what a call has written is that model
 pub begins-with : (f g : Formula) (before : List ℕ) {after : List ℕ} → after ≡ modelBytes f g ++ drop modelLength before → take modelLength after ≡ modelBytes f g
-begins-with f g before e = ap (take modelLength) e ∙ take-at (modelBytes f g) (drop modelLength before) modelLength (long f g)
+begins-with f g before e = ap (take modelLength) e ∙ take-at (modelBytes f g) (drop modelLength before) modelLength (model-long f g)

@@ -21,10 +21,10 @@ word-same n f g e = word-unique n (word n f) g (word-lt n f) (λ k h. bit-word n
 
 module _ (x : ℕ) (h : x < modelStates) where
   -- both x y has the bits of x and then those of y
-  now-bit : (y i : ℕ) → i ≤ lastVariable → bit (both x y) i ≡ bit x i
+  pub now-bit : (y i : ℕ) → i ≤ lastVariable → bit (both x y) i ≡ bit x i
   now-bit y i l = let e : both x y ≡ y * 2 ^ 6 + x = omega arith in ap (λ (w : ℕ). bit w i) e ∙ bit-cat-low 6 y x i (omega arith) (omega arith)
 
-  next-bit : (y i : ℕ) → bit (both x y) (variableCount + i) ≡ bit y i
+  pub next-bit : (y i : ℕ) → bit (both x y) (variableCount + i) ≡ bit y i
   next-bit y i = let e : both x y ≡ y * 2 ^ 6 + x = omega arith in ap (λ (w : ℕ). bit w (variableCount + i)) e ∙ bit-cat-high 6 y x i (omega arith)
 
   pub all-or-none : (b : Bool) → allIf b ≡ word modelStates (λ y. b)

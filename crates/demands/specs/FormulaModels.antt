@@ -1,0 +1,76 @@
+-- Request 2026-08, models given by formulas: what is written is a model, state x has letter x, and its initial states and successors are what the two formulas say of
+-- this state and the next; a refusal changes nothing, and one answer fits. The request's limits stand here as numbers. Assumes nothing: these are definitions.
+use Prim.Native.Nat.{ℕ, _+_, _*_, _<_, _≤_}
+use mathlib.Core.Path.{_≡_}
+use mathlib.Core.Logic.{_↔_}
+use mathlib.Core.Bool.{true}
+use mathlib.Core.List.{List}
+use lib.ListN.{length, take, drop}
+use Rattle.bits.specs.Word.{bit}
+use Rattle.definitions.specs.Definition1.{Formula, prop}
+use Rattle.definitions.specs.Definition2.{holds}
+use Rattle.systems.specs.Spelling as systems
+use Rattle.formula_models.specs.declared.FormulasAnswer.{FormulasAnswer}
+use Rattle.formula_models.specs.Answer.{Result, written, refused, told, FormulasRight}
+use Rattle.demands.specs.Terms.{IsModel, modelIn}
+
+-- the bytes are those of f and g, in which every variable is one of the six, and no more than 255
+pub record TwoFormulas (s : List ℕ) (f g : Formula) : Type 0 where
+  pub spelt : systems.Spells s f g
+  pub short : length s ≤ 255
+
+-- no other two formulas have these bytes
+abbrev pub OneReading : Type 0
+OneReading = (s : List ℕ) (f g f′ g′ : Formula) → TwoFormulas s f g → TwoFormulas s f′ g′ → (f ≡ f′) × (g ≡ g′)
+
+-- in the number x + 64y variable i of this state is proposition i, and that of the next is proposition 6 + i
+abbrev pub VariablesOfBoth : Type 0
+VariablesOfBoth = (x y i : ℕ) → x < 64 → i ≤ 5 → (holds (prop i) (x + 64 * y) ≡ bit x i) × (holds (prop (6 + i)) (x + 64 * y) ≡ bit y i)
+
+-- the call answered so for the bytes s and the slice b, which is a after it
+abbrev pub Reads : (s b a : List ℕ) → Result → Type 0
+Reads = FormulasRight
+
+-- written exactly if the bytes are two formulas' and the slice has room for 64 records
+abbrev pub WrittenExactly : Type 0
+WrittenExactly = (s b a : List ℕ) (x : Result) → Reads s b a x → (x ≡ written) ↔ (((f : Formula) × (g : Formula) × TwoFormulas s f g) × (704 ≤ length b))
+
+-- the first 704 bytes are a model: 64 states, state x has letter x, and f and g say which are initial and which follow
+pub record SaidBy (a : List ℕ) (f g : Formula) : Type 0 where
+  pub accepted : IsModel (take 704 a)
+  pub states : modelIn (take 704 a) .states ≡ 64
+  pub letter : (x : ℕ) → x < 64 → modelIn (take 704 a) .letter x ≡ x
+  pub initial : (x : ℕ) → x < 64 → (modelIn (take 704 a) .initial x ≡ true) ↔ (holds f x ≡ true)
+  pub next : (x y : ℕ) → x < 64 → y < 64 → (modelIn (take 704 a) .next x y ≡ true) ↔ (holds g (x + 64 * y) ≡ true)
+
+abbrev pub ModelIsSaid : Type 0
+ModelIsSaid = (s b a : List ℕ) (f g : Formula) → TwoFormulas s f g → Reads s b a written → SaidBy a f g
+
+-- bytes past 704 are as they were, and so are all after a refusal
+abbrev pub PastAsItWas : Type 0
+PastAsItWas = (s b a : List ℕ) → Reads s b a written → (length a ≡ length b) × (drop 704 a ≡ drop 704 b)
+
+abbrev pub RefusedFormulasKeep : Type 0
+RefusedFormulasKeep = (s b a : List ℕ) (n p : ℕ) → Reads s b a (refused n p) → a ≡ b
+
+-- 9 is tested first, whatever the bytes are; 21 last, of bytes that are two formulas'
+abbrev pub NineFirst : Type 0
+NineFirst = (s b a : List ℕ) (x : Result) → Reads s b a x → 255 < length s → x ≡ refused 9 0
+
+abbrev pub TwentyOneLast : Type 0
+TwentyOneLast = (s b a : List ℕ) (f g : Formula) (x : Result) → Reads s b a x → TwoFormulas s f g → length b < 704 → x ≡ refused 21 0
+
+-- no second answer fits, and no second content of the slice
+abbrev pub OneFormulas : Type 0
+OneFormulas = (s b a a′ : List ℕ) (x y : FormulasAnswer) → Reads s b a (told x) → Reads s b a′ (told y) → (x ≡ y) × (a ≡ a′)
+
+pub record FormulaModels : Type 0 where
+  pub one-reading : OneReading
+  pub variables-of-both : VariablesOfBoth
+  pub written-exactly : WrittenExactly
+  pub model-is-said : ModelIsSaid
+  pub past-as-it-was : PastAsItWas
+  pub refused-formulas-keep : RefusedFormulasKeep
+  pub nine-first : NineFirst
+  pub twenty-one-last : TwentyOneLast
+  pub one-formulas : OneFormulas
