@@ -44,14 +44,11 @@ fn empty(block: &[u64]) -> bool
     true
 }
 
-// All rounds: bit j of word i becomes bit i of word j. A square of zeros, as the states outside a weight have, stays what it is.
-pub fn turn_over(block: &mut [u64])
+// All rounds: bit j of word i becomes bit i of word j.
+fn six_rounds(block: &mut [u64])
     requires { ⌜ length (now block) ≡ side ⌝ }
     ensures { λ _. ⌜ TurnedOver (now (block .entry)) (now (block .exit)) ⌝ }
 {
-    if empty(block) {
-        return;
-    }
     let mut other = [0u64; SIDE];
     round(block, &mut other, 5, 32, 0x0000_0000_FFFF_FFFF);
     round(&other, block, 4, 16, 0x0000_FFFF_0000_FFFF);
@@ -59,4 +56,15 @@ pub fn turn_over(block: &mut [u64])
     round(&other, block, 2, 4, 0x0F0F_0F0F_0F0F_0F0F);
     round(block, &mut other, 1, 2, 0x3333_3333_3333_3333);
     round(&other, block, 0, 1, 0x5555_5555_5555_5555);
+}
+
+// The square turned over; one of zeros, as the states outside a weight have, is not gone over.
+pub fn turn_over(block: &mut [u64])
+    requires { ⌜ length (now block) ≡ side ⌝ }
+    ensures { λ _. ⌜ TurnedOver (now (block .entry)) (now (block .exit)) ⌝ }
+{
+    if empty(block) {
+        return;
+    }
+    six_rounds(block);
 }
