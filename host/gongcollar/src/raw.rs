@@ -120,6 +120,18 @@ pub struct Lasts {
     pub lasting: u64,
 }
 
+/// What `gc_formula_model` answers.
+#[repr(C)]
+#[derive(Debug, Clone, Copy, Default, PartialEq, Eq)]
+pub struct Written {
+    /// 0 for an answer, else the refusal's number.
+    pub refused: u64,
+    /// Where the refusal is.
+    pub place: u64,
+    /// The number of bytes that were written.
+    pub length: u64,
+}
+
 /// What `gc_search` and `gc_search_trimmed` answer.
 #[repr(C)]
 #[derive(Debug, Clone, Copy, Default, PartialEq, Eq)]
@@ -183,7 +195,7 @@ pub struct Lent<'a> {
 
 mod c {
     use super::{
-        Built, Judged, Lasts, Model, Moved, Rule, Searched, Stepped, Text, Trimmed, Walker,
+        Built, Judged, Lasts, Model, Moved, Rule, Searched, Stepped, Text, Trimmed, Walker, Written,
     };
 
     extern "C" {
@@ -216,6 +228,12 @@ mod c {
             letters_len: usize,
         ) -> Moved;
         pub fn gc_read_model(model: *const u8, model_len: usize) -> Model;
+        pub fn gc_formula_model(
+            formulas: *const u8,
+            formulas_len: usize,
+            model: *mut u8,
+            model_len: usize,
+        ) -> Written;
         pub fn gc_lasting(model: *const u8, model_len: usize) -> Lasts;
         pub fn gc_search(
             rule: *const u8,
@@ -333,6 +351,19 @@ pub fn follow(table: &[u64], finals: u64, letters: &[u8]) -> Moved {
 pub fn read_model(model: &[u8]) -> Model {
     // SAFETY: one slice that is only read.
     unsafe { c::gc_read_model(model.as_ptr(), model.len()) }
+}
+
+/// `gc_formula_model`: the model of two formulas into a lent slice.
+pub fn formula_model(formulas: &[u8], model: &mut [u8]) -> Written {
+    // SAFETY: `model` is borrowed alone, so it does not overlap `formulas`.
+    unsafe {
+        c::gc_formula_model(
+            formulas.as_ptr(),
+            formulas.len(),
+            model.as_mut_ptr(),
+            model.len(),
+        )
+    }
 }
 
 /// `gc_lasting`: the states of a model from which an endless run leaves.
@@ -456,6 +487,8 @@ mod tests {
             assert_eq!(c::gc_follow(null(), 0, 1, n, 0), follow(&[], 1, &[]));
             assert_eq!(c::gc_read_model(n, 0), read_model(&[]));
             assert_eq!(c::gc_lasting(n, 0), lasting(&[]));
+            let written = c::gc_formula_model(n, 0, null_mut(), 0);
+            assert_eq!(written, formula_model(&[], &mut []));
             let (w1, w2) = (null_mut(), null_mut());
             let searched = c::gc_search(rule.0, rule.1, n, 0, null_mut(), 0, w1, 0, w2, 0, m, 0);
             assert_eq!(searched, search(&empty, &[], &mut lent));

@@ -8,5 +8,6 @@ mod interface;
 mod refusals;
 mod slices;
 mod source;
+mod systems;
 mod texts;
 mod worked;
