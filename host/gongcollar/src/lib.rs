@@ -7,6 +7,9 @@
 //! place that they come from; [`Table::follow`] decides a whole sequence, and [`judge`] a short one with no table. Bad
 //! input is a [`Refusal`] with its number and its place.
 //!
+//! [`Table::rows`] stores a table the other way, as rows by letter: a walker then reads one row for each state that it may
+//! be in, and no labels.
+//!
 //! [`Table::trim`] takes the states that do no work out of a table, and [`Workspace::search_trimmed`] searches over what
 //! is left.
 //!
@@ -28,6 +31,7 @@ mod propositions;
 #[allow(unsafe_code)]
 pub mod raw;
 mod refusal;
+mod rows;
 mod rules;
 mod systems;
 mod tables;
@@ -41,6 +45,7 @@ pub use models::{
 };
 pub use propositions::Propositions;
 pub use refusal::Refusal;
+pub use rows::{rows_into, table_into, Layout, LentRows, Rows};
 pub use rules::{judge, read_rule, RuleInfo};
 pub use systems::{formula_model, formula_model_into, Formula, System};
 pub use tables::{build_into, follow, trim_into, Built, Table, Trimmed};

@@ -6,6 +6,7 @@ mod header;
 mod inputs;
 mod interface;
 mod refusals;
+mod rows;
 mod slices;
 mod source;
 mod systems;
