@@ -2,9 +2,9 @@
 
 use crate::lent::Slices;
 use gongcollar::raw::{
-    Built, Judged, Lasts, Model, Moved, Rule, Searched, Stepped, Trimmed, Walker,
+    Built, Done, Judged, Lasts, Model, Moved, Rule, Searched, Stepped, Trimmed, Walker, Written,
 };
-use gongcollar::{ENTRIES, LINE_BYTES};
+use gongcollar::{ENTRIES, LINE_BYTES, MODEL_BYTES};
 use plain::Refusal;
 
 /// What `read_rule` should answer.
@@ -90,9 +90,19 @@ pub fn start(finals: u64) -> Walker {
     numbers(plain::start(finals))
 }
 
-/// What `step` should answer: after a refusal the walker is as it came.
+/// What `step` should answer.
 pub fn step(walker: Walker, table: &[u64], letter: u8) -> Stepped {
-    match plain::step(plain_walker(walker), table, letter) {
+    stepped(walker, plain::step(plain_walker(walker), table, letter))
+}
+
+/// What `step_rows` should answer.
+pub fn step_rows(walker: Walker, rows: &[u64], letter: u8) -> Stepped {
+    stepped(walker, plain::step_rows(plain_walker(walker), rows, letter))
+}
+
+/// After a refusal the walker is as it came.
+fn stepped(walker: Walker, said: Result<(plain::Walker, bool), Refusal>) -> Stepped {
+    match said {
         Ok((after, matches)) => Stepped {
             matches: matches.into(),
             walker: numbers(after),
@@ -109,7 +119,16 @@ pub fn step(walker: Walker, table: &[u64], letter: u8) -> Stepped {
 
 /// What `follow` should answer.
 pub fn follow(table: &[u64], finals: u64, letters: &[u8]) -> Moved {
-    match plain::follow(table, finals, letters) {
+    moved(plain::follow(table, finals, letters))
+}
+
+/// What `follow_rows` should answer.
+pub fn follow_rows(rows: &[u64], finals: u64, letters: &[u8]) -> Moved {
+    moved(plain::follow_rows(rows, finals, letters))
+}
+
+fn moved(said: Result<bool, Refusal>) -> Moved {
+    match said {
         Ok(matches) => Moved {
             matches: matches.into(),
             ..Moved::default()
@@ -118,6 +137,47 @@ pub fn follow(table: &[u64], finals: u64, letters: &[u8]) -> Moved {
             refused: number,
             place,
             ..Moved::default()
+        },
+    }
+}
+
+/// What `rows_of` should answer and write.
+pub fn rows_of(table: &[u64], rows: &mut [u64]) -> Done {
+    converted(plain::rows_of(table, rows.len()), rows)
+}
+
+/// What `table_of` should answer and write.
+pub fn table_of(rows: &[u64], table: &mut [u64]) -> Done {
+    converted(plain::labels_of(rows, table.len()), table)
+}
+
+fn converted(said: Result<Vec<u64>, Refusal>, out: &mut [u64]) -> Done {
+    match said {
+        Ok(words) => {
+            out[..ENTRIES].copy_from_slice(&words);
+            Done::default()
+        }
+        Err(Refusal { number, place }) => Done {
+            refused: number,
+            place,
+        },
+    }
+}
+
+/// What `formula_model` should answer and write.
+pub fn formula_model(formulas: &[u8], model: &mut [u8]) -> Written {
+    match plain::formula_model(formulas, model.len()) {
+        Ok(bytes) => {
+            model[..MODEL_BYTES].copy_from_slice(&bytes);
+            Written {
+                length: MODEL_BYTES as u64,
+                ..Written::default()
+            }
+        }
+        Err(Refusal { number, place }) => Written {
+            refused: number,
+            place,
+            ..Written::default()
         },
     }
 }
