@@ -5,7 +5,9 @@
 mod generated;
 mod hard;
 mod labels;
+mod rows;
 mod stack;
+mod systems;
 mod texts;
 mod timing;
 mod walkers;
@@ -34,10 +36,12 @@ fn main() -> ExitCode {
     generated::run(seed);
     labels::run();
     walkers::run(seed);
+    let rows = rows::run(seed);
+    let models = systems::run();
     let same = hard::run();
     let back = texts::run();
     let shallow = stack::run();
-    ExitCode::from(u8::from(!(same && back && shallow)))
+    ExitCode::from(u8::from(!(rows && models && same && back && shallow)))
 }
 
 /// The name of the processor, where the system tells it.
