@@ -225,14 +225,12 @@ fn close(text: &mut String, after: &mut Vec<char>) {
 ///     // Nothing is done yet.
 ///     initial: !&written & !&verified & !&deleted,
 ///     // What is done stays done; nothing is verified or deleted before the hourly values are written.
-///     step: Formula::all([
-///         Formula::all((0..3).map(stays)),
-///         Formula::next(1).implies(&written),
-///         Formula::next(2).implies(&written),
-///     ]),
+///     step: Formula::all((0..3).map(stays))
+///         & Formula::next(1).implies(&written)
+///         & Formula::next(2).implies(&written),
 /// };
 ///
-/// // At some time the quarter-hour values are gone, and nothing was verified.
+/// // At some time the quarter-hour values are deleted, and nothing was verified.
 /// let rule: Rule = "{{true}[*];(p2&!p1)}".parse()?;
 /// let mut workspace = Workspace::new();
 /// let searched = workspace.search(rule.bytes(), scheduler.model()?.bytes())?;

@@ -124,6 +124,42 @@ fn the_builder_spells_formulas() {
     assert!((0..64).all(|x| kept.successors(x) == 1 << x));
 }
 
+/// The scheduler as the README and the example in C have it.
+#[test]
+fn a_scheduler_of_three_flags() {
+    let [written, verified, deleted] = [0, 1, 2].map(Formula::now);
+    let stays = |flag| Formula::now(flag).implies(Formula::next(flag));
+    let scheduler = System {
+        initial: !&written & !&verified & !&deleted,
+        step: Formula::all((0..3).map(stays))
+            & Formula::next(1).implies(&written)
+            & Formula::next(2).implies(&written),
+    };
+    let initial = [
+        0x05, 0x05, 0x04, 0x01, 0x00, 0x04, 0x01, 0x01, 0x04, 0x01, 0x02,
+    ];
+    let step = [
+        [0x06, 0x04, 0x01, 0x00, 0x07, 0x00],
+        [0x06, 0x04, 0x01, 0x01, 0x07, 0x01],
+        [0x06, 0x04, 0x01, 0x02, 0x07, 0x02],
+        [0x06, 0x04, 0x07, 0x01, 0x01, 0x00],
+        [0x06, 0x04, 0x07, 0x02, 0x01, 0x00],
+    ];
+    let step = nested(AND, 4, &step.concat());
+    assert_eq!(scheduler.bytes(), system(&initial, &step));
+    let rule: Rule = "{{true}[*];(p2&!p1)}".parse().unwrap();
+    let line = |system: &System| {
+        let length = [rule.bytes().len() as u8];
+        rulecheck(&[&length, rule.bytes(), system.model().unwrap().bytes()].concat())
+    };
+    assert_eq!(line(&scheduler), "found 3 pairs 48: 0 1 5 uses 1 2");
+    let waits = System {
+        step: &scheduler.step & Formula::next(2).implies(&verified),
+        ..scheduler
+    };
+    assert!(line(&waits).starts_with("none pairs "));
+}
+
 #[test]
 fn what_no_model_has_is_refused_when_the_model_is_made() {
     let system = |initial, step| System { initial, step };
