@@ -1,5 +1,6 @@
-/* A host in C: searches a small model for a run that matches a rule, shows a refusal, tells which states are half drawn,
- * follows events by the rule's table, and steps a walker for each of two clinics. From the repository's root:
+/* A host in C: searches a small model for a run that matches a rule, shows a refusal, tells which states are half
+ * drawn, searches a model that two formulas give, follows events by the rule's table and by its rows, and steps a walker
+ * for each of two clinics. From the repository's root:
  *
  *     rt staticlib exports
  *     cc -Iinclude examples/check.c target/staticlib/libexports.a -o target/check && target/check
@@ -9,8 +10,8 @@
 #include <inttypes.h>
 #include <stdio.h>
 
-#if GONGCOLLAR_VERSION < 7
-#error "gc_lasting and gc_step_lent are of this page"
+#if GONGCOLLAR_VERSION < 9
+#error "gc_formula_model and gc_rows_of are of this page"
 #endif
 
 enum { ENTRIES = 4096 };
@@ -71,6 +72,32 @@ static void tell_dead_ends(const char *what, const uint8_t *bytes, size_t count)
     printf("\n");
 }
 
+/* A scheduler of three flags: hourly values are written (p0), they are verified (p1), quarter-hour values are deleted
+ * (p2). At first nothing is done; what is done stays done; nothing is verified or deleted before it is written. */
+static const uint8_t scheduler[] = {
+    0x30, 0x05, 0x05, 0x04, 0x01, 0x00, 0x04, 0x01, 0x01, 0x04, 0x01, 0x02, /* not p0, not p1, not p2 */
+    0x31, 0x05, 0x05, 0x05, 0x05,                                           /* all of these: */
+    0x06, 0x04, 0x01, 0x00, 0x07, 0x00,                                     /* not p0, or p0 next */
+    0x06, 0x04, 0x01, 0x01, 0x07, 0x01,                                     /* not p1, or p1 next */
+    0x06, 0x04, 0x01, 0x02, 0x07, 0x02,                                     /* not p2, or p2 next */
+    0x06, 0x04, 0x07, 0x01, 0x01, 0x00,                                     /* not p1 next, or p0 */
+    0x06, 0x04, 0x07, 0x02, 0x01, 0x00,                                     /* not p2 next, or p0 */
+};
+
+/* {{true}[*];(p2&!p1)}: at some time values are deleted, and not verified */
+static const uint8_t too_early[] = {0x12, 0x17, 0x10, 0x02, 0x10, 0x05, 0x01, 0x02, 0x04, 0x01, 0x01};
+
+static void search_scheduler(void) {
+    static uint8_t states[704];
+    gc_written written = gc_formula_model(scheduler, sizeof scheduler, states, sizeof states);
+    if (written.refused) {
+        printf("the scheduler: refused %" PRIu64 " at %" PRIu64 "\n", written.refused, written.place);
+        return;
+    }
+    show("the scheduler", gc_search(too_early, sizeof too_early, states, written.length, table, ENTRIES, work1, ENTRIES,
+                                    work2, ENTRIES, run, ENTRIES));
+}
+
 /* whether the rule accepts the events; its table stands in `table` and has these finals */
 static void follow(const char *what, uint64_t finals, const uint8_t *events, size_t count) {
     gc_moved answer = gc_follow(table, ENTRIES, finals, events, count);
@@ -79,6 +106,14 @@ static void follow(const char *what, uint64_t finals, const uint8_t *events, siz
         printf("refused %" PRIu64 " at %" PRIu64 "\n", answer.refused, answer.place);
     else
         printf("%s\n", answer.matches ? "they match" : "they do not match");
+}
+
+/* the same over the table stored as rows by letter, which takes less time */
+static void follow_rows(uint64_t finals, const uint8_t *events, size_t count) {
+    static uint64_t rows[ENTRIES];
+    gc_rows_of(table, ENTRIES, rows, ENTRIES);
+    gc_moved answer = gc_follow_rows(rows, ENTRIES, finals, events, count);
+    printf("by rows: %s\n", answer.matches ? "they match" : "they do not match");
 }
 
 /* what the host keeps of a clinic, with the walker in it */
@@ -114,6 +149,7 @@ int main(void) {
     show("a rule without its last byte", search(sizeof rule - 1, sizeof model));
 
     tell_dead_ends("a half-drawn job", half_drawn, sizeof half_drawn);
+    search_scheduler();
 
     /* p0, p1, p1, p2, and a byte that is no letter */
     static const uint8_t events[] = {1, 2, 2, 4, 64};
@@ -122,6 +158,7 @@ int main(void) {
     follow("the first three of them", built.finals, events, 3);
     follow("five events", built.finals, events, 5);
     follow("no events", built.finals, NULL, 0);
+    follow_rows(built.finals, events, 4);
     day(built.finals);
     return 0;
 }

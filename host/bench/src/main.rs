@@ -6,8 +6,10 @@
 mod generated;
 mod hard;
 mod labels;
+mod rows;
 mod searchers;
 mod stack;
+mod systems;
 mod texts;
 mod timing;
 mod twin;
@@ -46,10 +48,12 @@ fn all(seed: u64) -> bool {
     generated::run(seed);
     labels::run();
     walkers::run(seed);
+    let rows = rows::run(seed);
+    let models = systems::run();
     let same = hard::run();
     let back = texts::run();
     let shallow = stack::run();
-    same && back && shallow
+    rows && models && same && back && shallow
 }
 
 /// The name of the processor, where the system tells it.

@@ -1,9 +1,9 @@
-//! The deepest stack of each call, over the worst rules that are known.
+//! The deepest stack of each call, over the worst rules, texts and pairs of formulas that are known.
 //!
 //! The stack below the caller is painted, the call is made, and the lowest byte that has lost its paint tells how deep
 //! the call went. A thread's own memory is written and read through /proc/self/mem, so this is for Linux.
 
-use cases::{heavy, hostile, line_input, models, texts};
+use cases::{heavy, hostile, line_input, models, systems, texts};
 use gongcollar::{raw, Lent, ENTRIES, LINE_BYTES};
 use std::fs::{File, OpenOptions};
 use std::io;
@@ -123,6 +123,19 @@ fn measure(rules: &[Vec<u8>]) -> io::Result<Vec<Deepest>> {
     each("follow", &mut |rule| {
         raw::follow(&table, 1, rule);
     })?;
+    let mut rows = vec![0; ENTRIES];
+    each("rows_of", &mut |_| {
+        raw::rows_of(&full, &mut rows);
+    })?;
+    each("table_of", &mut |_| {
+        raw::table_of(&full, &mut rows);
+    })?;
+    each("step_rows", &mut |rule| {
+        raw::step_rows(walker, &rows, rule.len() as u8);
+    })?;
+    each("follow_rows", &mut |rule| {
+        raw::follow_rows(&rows, 1, rule);
+    })?;
     each("read_model", &mut |_| {
         raw::read_model(&model);
     })?;
@@ -156,6 +169,14 @@ fn measure(rules: &[Vec<u8>]) -> io::Result<Vec<Deepest>> {
         &texts::hostile(),
         &mut |text| {
             raw::read_text(text, &mut out);
+        },
+    )?);
+    calls.push(deepest(
+        &memory,
+        "formula_model",
+        &systems::hostile(),
+        &mut |formulas| {
+            raw::formula_model(formulas, &mut out);
         },
     )?);
     Ok(calls)

@@ -21,7 +21,7 @@ struct Event {
     letter: u8,
 }
 
-/// Prints what one step takes in the mean, by value and where the walker stands.
+/// Prints what one step takes in the mean, by value and where the walker stands, and over rows by letter.
 pub fn run(seed: u64) {
     let mut draws = Draws::new(seed);
     let day: Vec<Event> = (0..WALKERS * EVENTS)
@@ -35,40 +35,60 @@ pub fn run(seed: u64) {
     println!("which the middle one counts. The events are the same for each rule, and come from the walkers in any order.");
     println!();
     println!(
-        "{:<36}{:>10}{:>10}{:>10}",
-        "", "by value", "lent", "matched"
+        "{:<36}{:>10}{:>10}{:>10}{:>10}",
+        "", "by value", "lent", "by rows", "matched"
     );
     for rule in RULES {
         let built = rule
             .parse()
             .and_then(|rule: Rule| Table::build(rule.bytes()));
         let table = built.expect("a good rule");
-        let (by_value, _) = days(&table, &day, |walker, table, letter| {
-            *walker = raw::step(*walker, table, letter).walker;
-        });
-        let (lent, matched) = days(&table, &day, |walker, table, letter| {
-            raw::step_lent(walker, table, letter);
-        });
+        let (by_value, _) = days(
+            table.finals(),
+            table.entries(),
+            &day,
+            |walker, table, letter| {
+                *walker = raw::step(*walker, table, letter).walker;
+            },
+        );
+        let (lent, matched) = days(
+            table.finals(),
+            table.entries(),
+            &day,
+            |walker, table, letter| {
+                raw::step_lent(walker, table, letter);
+            },
+        );
+        let (by_rows, _) = days(
+            table.finals(),
+            table.rows().entries(),
+            &day,
+            |walker, rows, letter| {
+                *walker = raw::step_rows(*walker, rows, letter).walker;
+            },
+        );
         println!(
-            "{rule:<36}{:>10}{:>10}{matched:>10}",
+            "{rule:<36}{:>10}{:>10}{:>10}{matched:>10}",
             micros(by_value),
-            micros(lent)
+            micros(lent),
+            micros(by_rows)
         );
     }
 }
 
 /// The middle time of one event, and how many walkers have matched when the day is over.
 fn days(
-    table: &Table,
+    finals: u64,
+    entries: &[u64],
     day: &[Event],
     step: impl Fn(&mut raw::Walker, &[u64], u8),
 ) -> (Duration, usize) {
-    let fresh = raw::start(table.finals());
+    let fresh = raw::start(finals);
     let mut records = vec![fresh; WALKERS];
     let times = several(ROUNDS, || {
         records.fill(fresh);
         for event in day {
-            step(&mut records[event.walker], table.entries(), event.letter);
+            step(&mut records[event.walker], entries, event.letter);
         }
     });
     let matched = records.iter().filter(|walker| walker.matched != 0).count();

@@ -1,13 +1,15 @@
 //! Accepted inputs that take long: for measuring, and for a small stack.
 
+use crate::draws::Draws;
 use crate::hostile::{counted, hits, joined_left, joined_right, nested};
 use crate::rules::kind::*;
 use crate::rules::{ANY, P0};
+use crate::systems::{counter, of_length, system, MOST_BYTES};
 
 /// A letter of the formula false.
 const NEVER: [u8; 2] = [LETTER, FALSE];
 
-/// A rule with a name to print.
+/// A rule, or two formulas, with a name to print.
 #[derive(Debug, Clone)]
 pub struct Named {
     /// What it is.
@@ -183,4 +185,58 @@ pub fn for_the_builder() -> Vec<Named> {
             counted(0, 0, 1, &joined_left(BOTH, &ANY, 83)),
         ),
     ]
+}
+
+/// Pairs of formulas of 255 bytes, or nearly so many, that a model is written of.
+pub fn for_the_models() -> Vec<Named> {
+    let any = [TRUE];
+    let half = nested(NOT, 124, &[PROPOSITION, 5]);
+    vec![
+        named("true and true", system(&any, &any)),
+        named(
+            "250 nested not in the step",
+            system(&any, &nested(NOT, 250, &[NEXT, 0])),
+        ),
+        named(
+            "250 nested not for the initial states",
+            system(&nested(NOT, 250, &[PROPOSITION, 0]), &any),
+        ),
+        named(
+            "124 nested not in each, and one",
+            system(&half, &nested(NOT, 125, &[NEXT, 5])),
+        ),
+        named(
+            "126 times true under and in the step, to the left",
+            system(&any, &joined_left(AND, &any, 126)),
+        ),
+        named(
+            "126 times true under or in the step, to the right",
+            system(&any, &joined_right(OR, &any, 126)),
+        ),
+        named(
+            "84 next propositions under or, to the left",
+            system(&any, &joined_left(OR, &[NEXT, 3], 84)),
+        ),
+        named(
+            "84 propositions under and, to the right",
+            system(&any, &joined_right(AND, &[PROPOSITION, 3], 84)),
+        ),
+        named("a counter of six bits", counter()),
+        named(
+            "a drawn pair of 255 bytes",
+            of_length(&mut Draws::new(2), MOST_BYTES),
+        ),
+    ]
+}
+
+#[cfg(test)]
+mod tests {
+    use super::*;
+
+    #[test]
+    fn pairs_are_as_long_as_they_may_be() {
+        let lengths: Vec<usize> = for_the_models().iter().map(|x| x.bytes.len()).collect();
+        assert!(lengths.iter().all(|&length| length <= MOST_BYTES));
+        assert!(lengths[1..].iter().all(|&length| length > MOST_BYTES - 3));
+    }
 }

@@ -12,6 +12,7 @@ pub mod hostile;
 pub mod letters;
 pub mod models;
 pub mod rules;
+pub mod systems;
 pub mod texts;
 
 pub use draws::Draws;

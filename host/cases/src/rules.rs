@@ -11,6 +11,7 @@ pub mod kind {
     pub const NOT: u8 = 0x04;
     pub const AND: u8 = 0x05;
     pub const OR: u8 = 0x06;
+    pub const NEXT: u8 = 0x07;
     pub const LETTER: u8 = 0x10;
     pub const EMPTY: u8 = 0x11;
     pub const THEN: u8 = 0x12;
@@ -22,6 +23,8 @@ pub mod kind {
     pub const PLUS: u8 = 0x18;
     pub const COUNTED: u8 = 0x19;
     pub const HITS: u8 = 0x1A;
+    pub const INITIAL: u8 = 0x30;
+    pub const STEP: u8 = 0x31;
 }
 
 /// A letter of the formula true.

@@ -3,7 +3,7 @@
 use crate::report::Outcome;
 use crate::trials::Trials;
 use cases::Draws;
-use gongcollar::{Refusal, Rule, Table, Walker};
+use gongcollar::{Refusal, Rows, Rule, Table, Walker};
 
 /// How many clinics the host has.
 const CLINICS: usize = 10_000;
@@ -18,6 +18,8 @@ const RULE: &str = "{{true}[*];{p0;{{!p1}[*];p2}}}";
 #[derive(Debug)]
 struct Clinic {
     walker: Walker,
+    /// The same, stepped over the table's rows.
+    by_rows: Walker,
     /// What the plain library says of the same events.
     plain: plain::Walker,
     /// The events that were taken.
@@ -29,8 +31,10 @@ struct Clinic {
 /// A day of events, in the order in which they come: each from any clinic.
 pub fn run(trials: &mut Trials) {
     let (rule, table) = rule_and_table().expect("a good rule");
+    let rows = table.rows();
     let fresh = Clinic {
         walker: table.walker(),
+        by_rows: rows.walker(),
         plain: plain::start(table.finals()),
         taken: Vec::new(),
         fault: None,
@@ -39,7 +43,7 @@ pub fn run(trials: &mut Trials) {
     for _ in 0..CLINICS * EVENTS {
         let clinic = trials.draws.below(CLINICS);
         let event = event(&mut trials.draws);
-        clinics[clinic].step(&table, event);
+        clinics[clinic].step(&table, &rows, event);
     }
     let read = plain::read_rule(rule.bytes()).expect("a good rule").rule;
     for (number, mut clinic) in clinics.into_iter().enumerate() {
@@ -84,8 +88,9 @@ impl Clinic {
         }
     }
 
-    /// One event for both walkers.
-    fn step(&mut self, table: &Table, event: u8) {
+    /// One event for all walkers.
+    fn step(&mut self, table: &Table, rows: &Rows, event: u8) {
+        let by_rows = self.by_rows.step(rows, event).map_err(|x| x.number());
         let got = self.walker.step(table, event).map_err(|x| x.number());
         let want = plain::step(self.plain, table.entries(), event);
         if let Ok((walker, _)) = want {
@@ -93,7 +98,7 @@ impl Clinic {
             self.taken.push(event);
         }
         let want = want.map(|(_, matches)| matches).map_err(|x| x.number);
-        let same = got == want && self.remembers();
+        let same = got == want && by_rows == want && self.remembers();
         if !same && self.fault.is_none() {
             let Clinic { walker, plain, .. } = self;
             self.fault = Some(format!(
@@ -102,11 +107,12 @@ impl Clinic {
         }
     }
 
-    /// The two walkers hold the same.
+    /// The walkers hold the same.
     fn remembers(&self) -> bool {
         let (walker, plain) = (&self.walker, &self.plain);
         let first = plain.matched.then_some(plain.first);
-        (walker.set(), walker.finals()) == (plain.set, plain.finals)
+        self.by_rows == *walker
+            && (walker.set(), walker.finals()) == (plain.set, plain.finals)
             && (walker.taken(), walker.first_match()) == (plain.taken, first)
     }
 

@@ -2,9 +2,9 @@
 
 use crate::lent::Slices;
 use gongcollar::raw::{
-    Built, Judged, Lasts, Model, Moved, Rule, Searched, Stepped, Trimmed, Walker,
+    Built, Done, Judged, Lasts, Model, Moved, Rule, Searched, Stepped, Trimmed, Walker, Written,
 };
-use gongcollar::{ENTRIES, LINE_BYTES};
+use gongcollar::{ENTRIES, LINE_BYTES, MODEL_BYTES};
 use plain::Refusal;
 
 /// An answer that can be a refusal.
@@ -26,7 +26,7 @@ macro_rules! answers {
     };
 }
 
-answers!(Built, Judged, Lasts, Model, Moved, Rule, Searched, Trimmed);
+answers!(Built, Judged, Lasts, Model, Moved, Rule, Searched, Trimmed, Written);
 
 /// The answer of what was found, or the refusal.
 fn told<T, A: Answer>(found: Result<T, Refusal>, answer: impl FnOnce(T) -> A) -> A {
@@ -95,9 +95,21 @@ pub fn start(finals: u64) -> Walker {
     numbers(plain::start(finals))
 }
 
-/// What `step` should answer: after a refusal the walker is as it came.
+/// What `step` should answer.
 pub fn step(walker: Walker, table: &[u64], letter: u8) -> Stepped {
-    match plain::step(plain_walker(walker), table, letter) {
+    let said = plain::step(plain_walker(walker), table, letter);
+    stepped(walker, said)
+}
+
+/// What `step_rows` should answer.
+pub fn step_rows(walker: Walker, rows: &[u64], letter: u8) -> Stepped {
+    let said = plain::step_rows(plain_walker(walker), rows, letter);
+    stepped(walker, said)
+}
+
+/// After a refusal the walker is as it came.
+fn stepped(walker: Walker, said: Result<(plain::Walker, bool), Refusal>) -> Stepped {
+    match said {
         Ok((after, matches)) => Stepped {
             matches: matches.into(),
             walker: numbers(after),
@@ -114,9 +126,52 @@ pub fn step(walker: Walker, table: &[u64], letter: u8) -> Stepped {
 
 /// What `follow` should answer.
 pub fn follow(table: &[u64], finals: u64, letters: &[u8]) -> Moved {
-    told(plain::follow(table, finals, letters), |matches| Moved {
+    told(plain::follow(table, finals, letters), moved)
+}
+
+/// What `follow_rows` should answer.
+pub fn follow_rows(rows: &[u64], finals: u64, letters: &[u8]) -> Moved {
+    told(plain::follow_rows(rows, finals, letters), moved)
+}
+
+fn moved(matches: bool) -> Moved {
+    Moved {
         matches: matches.into(),
         ..Moved::default()
+    }
+}
+
+/// What `rows_of` should answer and write.
+pub fn rows_of(table: &[u64], rows: &mut [u64]) -> Done {
+    converted(plain::rows_of(table, rows.len()), rows)
+}
+
+/// What `table_of` should answer and write.
+pub fn table_of(rows: &[u64], table: &mut [u64]) -> Done {
+    converted(plain::labels_of(rows, table.len()), table)
+}
+
+fn converted(said: Result<Vec<u64>, Refusal>, out: &mut [u64]) -> Done {
+    match said {
+        Ok(words) => {
+            out[..ENTRIES].copy_from_slice(&words);
+            Done::default()
+        }
+        Err(Refusal { number, place }) => Done {
+            refused: number,
+            place,
+        },
+    }
+}
+
+/// What `formula_model` should answer and write.
+pub fn formula_model(formulas: &[u8], model: &mut [u8]) -> Written {
+    told(plain::formula_model(formulas, model.len()), |bytes| {
+        model[..MODEL_BYTES].copy_from_slice(&bytes);
+        Written {
+            length: MODEL_BYTES as u64,
+            ..Written::default()
+        }
     })
 }
 

@@ -6,5 +6,7 @@ pub mod clinics;
 pub mod expected;
 pub mod lent;
 pub mod report;
+pub mod rows;
+pub mod systems;
 pub mod texts;
 pub mod trials;

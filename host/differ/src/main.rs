@@ -6,14 +6,14 @@ use cases::damage::{damaged_more, likely_byte};
 use cases::draws::seed_given;
 use cases::{heavy, hostile, letters, line_input, models, rules, Draws};
 use differ::lent;
-use differ::trials::Trials;
+use differ::trials::{any_walker, some_letters, Trials, LONG_WALK};
 use gongcollar::raw;
 use std::process::ExitCode;
 
 const SEED: u64 = 20_260_101;
 /// Every refusal of the interface; each must come up.
-const REFUSALS: [u64; 22] = [
-    1, 2, 3, 4, 5, 6, 7, 8, 11, 12, 13, 14, 15, 16, 21, 22, 23, 24, 25, 30, 31, 32,
+const REFUSALS: [u64; 23] = [
+    1, 2, 3, 4, 5, 6, 7, 8, 9, 11, 12, 13, 14, 15, 16, 21, 22, 23, 24, 25, 30, 31, 32,
 ];
 const FEWEST_CASES: usize = 20_000;
 
@@ -24,8 +24,6 @@ const MODELS: usize = 2000;
 const WALKERS: usize = 400;
 const STEPS: usize = 15;
 const WALKS: usize = 2000;
-/// The longest sequence that is followed at once.
-const LONG_WALK: usize = 300;
 const TRIMS: usize = 3000;
 const RINGS: usize = 300;
 const FORKS: usize = 2000;
@@ -54,6 +52,8 @@ fn main() -> ExitCode {
     walks(&mut trials);
     trims(&mut trials);
     differ::texts::run(&mut trials);
+    differ::systems::run(&mut trials);
+    differ::rows::run(&mut trials);
     differ::clinics::run(&mut trials);
     verdict(seed, &trials)
 }
@@ -218,18 +218,6 @@ fn steps(trials: &mut Trials) {
     }
 }
 
-/// A walker that no start need have made: any sets, any count, near the largest now and then, and any mark.
-fn any_walker(draws: &mut Draws) -> raw::Walker {
-    let counts = [0, 1, 1000, u32::MAX - 5, u32::MAX - 1, u32::MAX];
-    raw::Walker {
-        set: draws.set(),
-        finals: draws.set(),
-        taken: draws.one_of(&counts),
-        first: draws.one_of(&[0, 1, 7, u32::MAX]),
-        matched: draws.one_of(&[0, 0, 1, 2, 1 << 31]),
-    }
-}
-
 fn step_on(trials: &mut Trials, sort: &'static str, walker: raw::Walker, labels: &[u64]) {
     let mut walker = walker;
     for _ in 0..STEPS {
@@ -319,12 +307,6 @@ fn trim_damaged(trials: &mut Trials, mut labels: Vec<u64>, weight: u64, finals: 
         _ => labels[draws.below(gongcollar::ENTRIES)] = draws.word(),
     }
     trials.trim("damaged", &labels, weight, finals);
-}
-
-fn some_letters(draws: &mut Draws) -> Vec<u8> {
-    let bound = draws.one_of(&[2, 16, LONG_WALK]);
-    let count = draws.below(bound);
-    letters::perhaps_bad(draws, count)
 }
 
 /// One rule and one model through every call that takes them.

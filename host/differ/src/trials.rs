@@ -9,6 +9,8 @@ use std::fmt::Debug;
 
 /// The longest sequence that is walked and not judged.
 const LONG_SEQUENCE: usize = 40;
+/// The longest sequence that is followed at once.
+pub const LONG_WALK: usize = 300;
 /// The longest sequence that is judged.
 const JUDGED: usize = 16;
 
@@ -334,6 +336,25 @@ fn walked(rule: &[u8], letters: &[u8]) -> Result<(bool, usize, Option<usize>), R
     Ok((matches, walker.taken() as usize, first))
 }
 
+/// A walker that no start need have made: any sets, any count, near the largest now and then, and any mark.
+pub fn any_walker(draws: &mut Draws) -> raw::Walker {
+    let counts = [0, 1, 1000, u32::MAX - 5, u32::MAX - 1, u32::MAX];
+    raw::Walker {
+        set: draws.set(),
+        finals: draws.set(),
+        taken: draws.one_of(&counts),
+        first: draws.one_of(&[0, 1, 7, u32::MAX]),
+        matched: draws.one_of(&[0, 0, 1, 2, 1 << 31]),
+    }
+}
+
+/// Letters, none or many, of which some may be none.
+pub fn some_letters(draws: &mut Draws) -> Vec<u8> {
+    let bound = draws.one_of(&[2, 16, LONG_WALK]);
+    let count = draws.below(bound);
+    letters::perhaps_bad(draws, count)
+}
+
 /// The labels from each member of the set into the lowest state that is in doubt, if any.
 fn labels_into(set: u64, labels: &[u64], doubtful: u64) -> String {
     if doubtful == 0 {
@@ -350,12 +371,13 @@ fn expected_run(want: &raw::Searched, slices: &Slices) -> Option<Vec<u8>> {
     (want.found == 1).then(|| slices.run[..want.length as usize].to_vec())
 }
 
-fn unlike<T: PartialEq + Debug>(got: T, want: T) -> Option<String> {
+/// What was said, where it is not what should be.
+pub(crate) fn unlike<T: PartialEq + Debug>(got: T, want: T) -> Option<String> {
     (got != want).then(|| format!("got {got:x?}, expected {want:x?}"))
 }
 
 /// The safe call says the same as the numbers do.
-fn unlike_safe<T: PartialEq + Debug>(
+pub(crate) fn unlike_safe<T: PartialEq + Debug>(
     safe: Result<T, Refusal>,
     refused: u64,
     place: u64,
@@ -378,7 +400,7 @@ fn how_many(lasts: &raw::Lasts) -> &'static str {
     }
 }
 
-fn yes_or_no(yes: bool) -> &'static str {
+pub(crate) fn yes_or_no(yes: bool) -> &'static str {
     if yes {
         "yes"
     } else {

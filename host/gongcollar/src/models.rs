@@ -5,6 +5,12 @@ pub use crate::raw::Lent;
 use crate::raw;
 use crate::{Propositions, Refusal, ENTRIES, STATES};
 
+/// The bytes of a state's record: its kind, its letter, its flag, and its successors, the lowest byte first.
+const RECORD_BYTES: usize = 11;
+const LETTER_AT: usize = 1;
+const FLAG_AT: usize = 2;
+const SUCCESSORS_AT: usize = 3;
+
 /// What is known of an accepted model.
 #[derive(Debug, Clone, Copy, PartialEq, Eq)]
 #[non_exhaustive]
@@ -27,6 +33,88 @@ pub fn read_model(model: &[u8]) -> Result<ModelInfo, Refusal> {
         states: answer.states,
     };
     Refusal::unless(answer.refused, answer.place, info)
+}
+
+/// An accepted model: its bytes in the house form, and what is known of it.
+///
+/// ```
+/// use gongcollar::Model;
+///
+/// let model = Model::from_bytes(&[
+///     0x20, 0x01, 0x01, 0x02, 0, 0, 0, 0, 0, 0, 0, // p0, initial, goes to state 1
+///     0x20, 0x02, 0x00, 0x03, 0, 0, 0, 0, 0, 0, 0, // p1, goes to states 0 and 1
+/// ])?;
+/// assert_eq!((model.states(), model.initial()), (2, 0b01));
+/// assert_eq!((model.letter(1), model.successors(1)), (Some(2), 0b11));
+/// # Ok::<(), gongcollar::Refusal>(())
+/// ```
+#[derive(Debug, Clone, PartialEq, Eq)]
+pub struct Model {
+    bytes: Vec<u8>,
+    info: ModelInfo,
+}
+
+impl Model {
+    /// The model of these bytes.
+    pub fn from_bytes(bytes: &[u8]) -> Result<Model, Refusal> {
+        let info = read_model(bytes)?;
+        let bytes = bytes.to_vec();
+        Ok(Model { bytes, info })
+    }
+
+    /// The bytes in the house form, as every call of this crate takes them.
+    pub fn bytes(&self) -> &[u8] {
+        &self.bytes
+    }
+
+    /// The number of states, 0 to 64.
+    pub fn states(&self) -> u64 {
+        self.info.states
+    }
+
+    /// What is known of the model.
+    pub fn info(&self) -> ModelInfo {
+        self.info
+    }
+
+    /// The letter of a state, if there is such a state.
+    pub fn letter(&self, state: usize) -> Option<u8> {
+        Some(self.record(state)?[LETTER_AT])
+    }
+
+    /// The set of the initial states, bit s for state s.
+    pub fn initial(&self) -> u64 {
+        let flags = self.bytes.chunks_exact(RECORD_BYTES).take(STATES);
+        let initial = flags.enumerate().filter(|(_, record)| record[FLAG_AT] == 1);
+        initial.fold(0, |set, (state, _)| set | 1 << state)
+    }
+
+    /// The set of the states that may follow a state, bit t for state t; 0 where there is no such state.
+    pub fn successors(&self, state: usize) -> u64 {
+        let bytes = self.record(state).map(|record| &record[SUCCESSORS_AT..]);
+        bytes.map_or(0, |bytes| {
+            let above = |word: u64, &byte: &u8| word << u8::BITS | u64::from(byte);
+            bytes.iter().rev().fold(0, above)
+        })
+    }
+
+    fn record(&self, state: usize) -> Option<&[u8]> {
+        self.bytes.chunks_exact(RECORD_BYTES).nth(state)
+    }
+}
+
+impl TryFrom<&[u8]> for Model {
+    type Error = Refusal;
+
+    fn try_from(bytes: &[u8]) -> Result<Model, Refusal> {
+        Model::from_bytes(bytes)
+    }
+}
+
+impl AsRef<[u8]> for Model {
+    fn as_ref(&self) -> &[u8] {
+        self.bytes()
+    }
 }
 
 /// Which states of a model last: those from which an endless run leaves. No run that counts enters another.

@@ -68,7 +68,7 @@ pub struct Walker {
     pub matched: u32,
 }
 
-/// What `gc_step` answers.
+/// What `gc_step` and `gc_step_rows` answer.
 #[repr(C)]
 #[derive(Debug, Clone, Copy, Default, PartialEq, Eq)]
 pub struct Stepped {
@@ -82,7 +82,7 @@ pub struct Stepped {
     pub walker: Walker,
 }
 
-/// What `gc_step_lent` and `gc_follow` answer.
+/// What `gc_step_lent`, `gc_follow` and `gc_follow_rows` answer.
 #[repr(C)]
 #[derive(Debug, Clone, Copy, Default, PartialEq, Eq)]
 pub struct Moved {
@@ -92,6 +92,16 @@ pub struct Moved {
     pub place: u64,
     /// 1 if a final state is in the set after the letter, or after all of them; else 0.
     pub matches: u64,
+}
+
+/// What `gc_rows_of` and `gc_table_of` answer.
+#[repr(C)]
+#[derive(Debug, Clone, Copy, Default, PartialEq, Eq)]
+pub struct Done {
+    /// 0 for an answer, else the refusal's number.
+    pub refused: u64,
+    /// Where the refusal is.
+    pub place: u64,
 }
 
 /// What `gc_read_model` answers.
@@ -118,6 +128,18 @@ pub struct Lasts {
     pub states: u64,
     /// The states from which an endless run leaves, bit s for state s.
     pub lasting: u64,
+}
+
+/// What `gc_formula_model` answers.
+#[repr(C)]
+#[derive(Debug, Clone, Copy, Default, PartialEq, Eq)]
+pub struct Written {
+    /// 0 for an answer, else the refusal's number.
+    pub refused: u64,
+    /// Where the refusal is.
+    pub place: u64,
+    /// The number of bytes that were written.
+    pub length: u64,
 }
 
 /// What `gc_search` and `gc_search_trimmed` answer.
@@ -183,7 +205,8 @@ pub struct Lent<'a> {
 
 mod c {
     use super::{
-        Built, Judged, Lasts, Model, Moved, Rule, Searched, Stepped, Text, Trimmed, Walker,
+        Built, Done, Judged, Lasts, Model, Moved, Rule, Searched, Stepped, Text, Trimmed, Walker,
+        Written,
     };
 
     extern "C" {
@@ -215,7 +238,38 @@ mod c {
             letters: *const u8,
             letters_len: usize,
         ) -> Moved;
+        pub fn gc_rows_of(
+            table: *const u64,
+            table_len: usize,
+            rows: *mut u64,
+            rows_len: usize,
+        ) -> Done;
+        pub fn gc_table_of(
+            rows: *const u64,
+            rows_len: usize,
+            table: *mut u64,
+            table_len: usize,
+        ) -> Done;
+        pub fn gc_step_rows(
+            walker: Walker,
+            rows: *const u64,
+            rows_len: usize,
+            letter: u8,
+        ) -> Stepped;
+        pub fn gc_follow_rows(
+            rows: *const u64,
+            rows_len: usize,
+            finals: u64,
+            letters: *const u8,
+            letters_len: usize,
+        ) -> Moved;
         pub fn gc_read_model(model: *const u8, model_len: usize) -> Model;
+        pub fn gc_formula_model(
+            formulas: *const u8,
+            formulas_len: usize,
+            model: *mut u8,
+            model_len: usize,
+        ) -> Written;
         pub fn gc_lasting(model: *const u8, model_len: usize) -> Lasts;
         pub fn gc_search(
             rule: *const u8,
@@ -329,10 +383,56 @@ pub fn follow(table: &[u64], finals: u64, letters: &[u8]) -> Moved {
     }
 }
 
+/// `gc_rows_of`: the rows by letter of a table into a lent slice.
+pub fn rows_of(table: &[u64], rows: &mut [u64]) -> Done {
+    // SAFETY: `rows` is borrowed alone, so it does not overlap `table`.
+    unsafe { c::gc_rows_of(table.as_ptr(), table.len(), rows.as_mut_ptr(), rows.len()) }
+}
+
+/// `gc_table_of`: the table that has these rows into a lent slice.
+pub fn table_of(rows: &[u64], table: &mut [u64]) -> Done {
+    // SAFETY: `table` is borrowed alone, so it does not overlap `rows`.
+    unsafe { c::gc_table_of(rows.as_ptr(), rows.len(), table.as_mut_ptr(), table.len()) }
+}
+
+/// `gc_step_rows`: one step of a walker over rows by letter.
+pub fn step_rows(walker: Walker, rows: &[u64], letter: u8) -> Stepped {
+    // SAFETY: one slice that is only read.
+    unsafe { c::gc_step_rows(walker, rows.as_ptr(), rows.len(), letter) }
+}
+
+/// `gc_follow_rows`: whether a fresh walker matches at the end of a whole sequence, over rows by letter.
+pub fn follow_rows(rows: &[u64], finals: u64, letters: &[u8]) -> Moved {
+    let letters = apart(rows, letters);
+    // SAFETY: two slices that are only read, and that do not overlap.
+    unsafe {
+        c::gc_follow_rows(
+            rows.as_ptr(),
+            rows.len(),
+            finals,
+            letters.as_ptr(),
+            letters.len(),
+        )
+    }
+}
+
 /// `gc_read_model`: what is known of a model.
 pub fn read_model(model: &[u8]) -> Model {
     // SAFETY: one slice that is only read.
     unsafe { c::gc_read_model(model.as_ptr(), model.len()) }
+}
+
+/// `gc_formula_model`: the model of two formulas into a lent slice.
+pub fn formula_model(formulas: &[u8], model: &mut [u8]) -> Written {
+    // SAFETY: `model` is borrowed alone, so it does not overlap `formulas`.
+    unsafe {
+        c::gc_formula_model(
+            formulas.as_ptr(),
+            formulas.len(),
+            model.as_mut_ptr(),
+            model.len(),
+        )
+    }
 }
 
 /// `gc_lasting`: the states of a model from which an endless run leaves.
@@ -454,8 +554,26 @@ mod tests {
             let moved = c::gc_step_lent(&mut walker, null(), 0, 0);
             assert_eq!((moved.refused, walker), (21, fresh));
             assert_eq!(c::gc_follow(null(), 0, 1, n, 0), follow(&[], 1, &[]));
+            assert_eq!(
+                c::gc_rows_of(null(), 0, null_mut(), 0),
+                rows_of(&[], &mut [])
+            );
+            assert_eq!(
+                c::gc_table_of(null(), 0, null_mut(), 0),
+                table_of(&[], &mut [])
+            );
+            assert_eq!(
+                c::gc_step_rows(fresh, null(), 0, 0),
+                step_rows(fresh, &[], 0)
+            );
+            assert_eq!(
+                c::gc_follow_rows(null(), 0, 1, n, 0),
+                follow_rows(&[], 1, &[])
+            );
             assert_eq!(c::gc_read_model(n, 0), read_model(&[]));
             assert_eq!(c::gc_lasting(n, 0), lasting(&[]));
+            let written = c::gc_formula_model(n, 0, null_mut(), 0);
+            assert_eq!(written, formula_model(&[], &mut []));
             let (w1, w2) = (null_mut(), null_mut());
             let searched = c::gc_search(rule.0, rule.1, n, 0, null_mut(), 0, w1, 0, w2, 0, m, 0);
             assert_eq!(searched, search(&empty, &[], &mut lent));

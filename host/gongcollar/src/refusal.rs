@@ -42,7 +42,8 @@ macro_rules! refusals {
                 }
             }
 
-            /// The offset of the byte in the rule, the model or the text, or the index of the letter; 0 where there is none.
+            /// The offset of the byte in the rule, the formulas, the model or the text, or the index of the letter; 0 where
+            /// there is none.
             pub fn place(&self) -> u64 {
                 match *self {
                     $(Refusal::$name { place } => place,)*
@@ -66,20 +67,21 @@ macro_rules! refusals {
 
 refusals! {
     RuleTooLong = 1: "the rule has more than 255 bytes";
-    RuleEnded = 2: "the rule ends where another byte is needed";
+    RuleEnded = 2: "the bytes end where another is needed";
     UnknownKind = 3: "no kind of rule or formula";
-    WrongSort = 4: "a formula for a rule, or a rule for a formula";
+    WrongSort = 4: "a kind out of its place, as a formula for a rule or a rule for a formula";
     UnknownProposition = 5: "a proposition above 5";
-    BytesAfterRule = 6: "bytes after the complete rule";
+    BytesAfterRule = 6: "bytes after what is complete";
     TooHeavy = 7: "the rule weighs more than 64";
     BadCounts = 8: "counts of which the first exceeds the second, or the second 15";
+    FormulasTooLong = 9: "the formulas have more than 255 bytes";
     TooManyStates = 11: "the model goes on after 64 states";
     NotAState = 12: "a record of the model that is no state";
     StateCutShort = 13: "the model ends inside a state";
     StateLetter = 14: "a state's letter above 63";
     StateFlag = 15: "a state's flag that is neither 0 nor 1";
     MissingSuccessor = 16: "a successor that does not exist";
-    ShortSlice = 21: "a lent slice below 4,096 entries";
+    ShortSlice = 21: "a lent slice below 4,096 entries, or below 704 bytes for a model";
     EventLetter = 22: "an event's letter above 63";
     TooManyLetters = 23: "more than 16 letters to judge";
     NoTable = 24: "no table of the stated weight and finals";

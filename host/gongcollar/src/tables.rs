@@ -1,6 +1,7 @@
 //! Tables: a rule's automaton, over which events are followed.
 
 use crate::raw;
+use crate::rows::{Layout, Rows};
 use crate::{Propositions, Refusal, Walker, ENTRIES, STATES};
 
 /// What is known of a built table beside its labels.
@@ -88,8 +89,8 @@ pub fn trim_into(table: &mut [u64], weight: u64, finals: u64) -> Result<Trimmed,
 /// ```
 #[derive(Debug, Clone, PartialEq, Eq)]
 pub struct Table {
-    entries: Vec<u64>,
-    built: Built,
+    pub(crate) entries: Vec<u64>,
+    pub(crate) built: Built,
 }
 
 impl Table {
@@ -149,6 +150,11 @@ impl Table {
         &self.entries
     }
 
+    /// The same table as rows by letter, over which walkers step in less time.
+    pub fn rows(&self) -> Rows {
+        Rows::of(self)
+    }
+
     /// A walker at the table's initial state.
     pub fn walker(&self) -> Walker {
         Walker::start(self.finals())
@@ -166,7 +172,7 @@ impl AsRef<[u64]> for Table {
     }
 }
 
-/// Whether a fresh walker matches after all the letters, over whatever labels are lent.
+/// Whether a fresh walker matches after all the letters, over whatever labels, or rows by letter, are lent.
 ///
 /// ```
 /// use gongcollar::{follow, Table};
@@ -180,7 +186,7 @@ impl AsRef<[u64]> for Table {
 /// assert_eq!((refusal.number(), refusal.place()), (22, 1));
 /// # Ok::<(), gongcollar::Refusal>(())
 /// ```
-pub fn follow(table: impl AsRef<[u64]>, finals: u64, letters: &[u8]) -> Result<bool, Refusal> {
-    let answer = raw::follow(table.as_ref(), finals, letters);
+pub fn follow(table: impl Layout, finals: u64, letters: &[u8]) -> Result<bool, Refusal> {
+    let answer = table.follow(finals, letters);
     Refusal::unless(answer.refused, answer.place, answer.matches != 0)
 }

@@ -17,7 +17,9 @@
 //! | the plain judge | `judge` | [`judge()`] |
 //! | the automaton in the scope document's numbering | `table` | [`build`], [`Table`] |
 //! | the walker | `walk` | [`Walker`], [`start`], [`step`], [`follow`] |
+//! | rows by letter | `rows`, `walk` | [`rows_of`], [`labels_of`], [`step_rows`], [`follow_rows`] |
 //! | bytes to models | `model` | [`read_model`], [`Model`] |
+//! | models given by formulas | `system` | [`formula_model`], [`read_system`], [`System`], [`StepFormula`] |
 //! | which states of a model last | `lasting` | [`lasting()`], [`Lasting`] |
 //! | the search and its count | `search` | [`search()`], [`search_trimmed`], [`Searched`] |
 //! | the trimmed table | `trim` | [`trim()`] |
@@ -36,9 +38,11 @@ mod meaning;
 mod model;
 mod reader;
 mod refusal;
+mod rows;
 mod rule;
 mod search;
 mod set;
+mod system;
 mod table;
 mod text;
 mod trim;
@@ -52,9 +56,11 @@ pub use meaning::accepts;
 pub use model::{read_model, Model};
 pub use reader::{read_rule, ReadRule};
 pub use refusal::Refusal;
+pub use rows::{labels_of, rows_of};
 pub use rule::{Counts, Rule};
 pub use search::{search, search_trimmed, Searched};
+pub use system::{formula_model, read_system, StepFormula, System, MODEL_BYTES};
 pub use table::{build, Table, TABLE_ENTRIES};
 pub use text::{read_text, write_text, Given};
 pub use trim::trim;
-pub use walk::{follow, start, step, Walker};
+pub use walk::{follow, follow_rows, start, step, step_rows, Walker};

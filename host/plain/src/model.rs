@@ -1,4 +1,4 @@
-//! From bytes in the house form to a model: a row of state records.
+//! From bytes in the house form to a model, a row of state records, and back.
 
 use crate::bytes::Bytes;
 use crate::formula::LAST_LETTER;
@@ -6,7 +6,7 @@ use crate::refusal::{
     Refusal, NOT_A_STATE, NO_SUCH_SUCCESSOR, STATE_CUT_SHORT, STATE_FLAG, STATE_LETTER,
     TOO_MANY_STATES,
 };
-use crate::set::{members, only, WORD};
+use crate::set::{has, members, only, WORD};
 
 /// The kind of a state record.
 const STATE: u8 = 0x20;
@@ -96,6 +96,24 @@ impl Model {
     /// The number of states.
     pub(crate) fn size(&self) -> usize {
         self.letters.len()
+    }
+
+    /// The records of the states.
+    pub fn bytes(&self) -> Vec<u8> {
+        (0..self.size())
+            .flat_map(|state| self.record(state))
+            .collect()
+    }
+
+    fn record(&self, state: usize) -> [u8; RECORD] {
+        let mut record = [0; RECORD];
+        record[..SUCCESSORS_AT].copy_from_slice(&[
+            STATE,
+            self.letters[state],
+            has(self.initial, state).into(),
+        ]);
+        record[SUCCESSORS_AT..].copy_from_slice(&self.successors[state].to_le_bytes());
+        record
     }
 
     /// The lowest state that names a successor which does not exist.

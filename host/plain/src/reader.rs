@@ -14,14 +14,14 @@ const LONGEST_RULE: usize = 255;
 /// The most states that a rule's table may have.
 const LARGEST_WEIGHT: u128 = 64;
 
-const PROPOSITION: u8 = 0x01;
-const TRUE: u8 = 0x02;
-const FALSE: u8 = 0x03;
-const NOT: u8 = 0x04;
-const AND: u8 = 0x05;
-const OR: u8 = 0x06;
+pub(crate) const PROPOSITION: u8 = 0x01;
+pub(crate) const TRUE: u8 = 0x02;
+pub(crate) const FALSE: u8 = 0x03;
+pub(crate) const NOT: u8 = 0x04;
+pub(crate) const AND: u8 = 0x05;
+pub(crate) const OR: u8 = 0x06;
 
-const LETTER: u8 = 0x10;
+pub(crate) const LETTER: u8 = 0x10;
 const EMPTY: u8 = 0x11;
 const THEN: u8 = 0x12;
 const OVERLAP: u8 = 0x13;
@@ -31,7 +31,7 @@ const EQUAL_AND: u8 = 0x16;
 const STAR: u8 = 0x17;
 const PLUS: u8 = 0x18;
 const COUNTED: u8 = 0x19;
-const HITS: u8 = 0x1A;
+pub(crate) const HITS: u8 = 0x1A;
 
 /// A rule that was accepted.
 #[derive(Debug, Clone, PartialEq, Eq)]

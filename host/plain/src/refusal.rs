@@ -5,7 +5,7 @@
 pub struct Refusal {
     /// The number in the scope document's table of refusals.
     pub number: u64,
-    /// A byte offset in the rule or the model, an index in the letters, or 0.
+    /// A byte offset in the rule, the model or the two formulas, an index in the letters, or 0.
     pub place: u64,
 }
 
@@ -27,6 +27,7 @@ pub(crate) const NO_SUCH_PROPOSITION: u64 = 5;
 pub(crate) const BYTES_AFTER_RULE: u64 = 6;
 pub(crate) const TOO_HEAVY: u64 = 7;
 pub(crate) const NO_COUNTS: u64 = 8;
+pub(crate) const FORMULAS_TOO_LONG: u64 = 9;
 pub(crate) const TOO_MANY_STATES: u64 = 11;
 pub(crate) const NOT_A_STATE: u64 = 12;
 pub(crate) const STATE_CUT_SHORT: u64 = 13;

@@ -3,11 +3,11 @@
 //!
 //! A stack that does not suffice ends the process by a signal; an answer that is wrong gives the status 1.
 
-use cases::texts;
-use cases::{heavy, hostile, line_input, models};
+use cases::{heavy, hostile, line_input, models, systems, texts};
 use differ::expected;
-use gongcollar::raw::{self, Built, Judged, Moved, Rule, Trimmed};
-use gongcollar::{read_text_into, write_text_into, Workspace, ENTRIES, RULE_BYTES, TEXT_BYTES};
+use gongcollar::raw::{self, Built, Judged, Moved, Rule, Stepped, Trimmed, Written};
+use gongcollar::{read_text_into, write_text_into, Workspace};
+use gongcollar::{ENTRIES, MODEL_BYTES, RULE_BYTES, TEXT_BYTES};
 use std::process::ExitCode;
 use std::thread;
 
@@ -24,6 +24,7 @@ struct Said {
     read: Rule,
     built: Built,
     followed: Moved,
+    by_rows: (Stepped, Moved),
     judged: Judged,
     trimmed: Trimmed,
     searched: Searched,
@@ -49,12 +50,18 @@ fn by_library(rule: &[u8], model: &[u8]) -> Said {
     let mut workspace = Workspace::new();
     let searched = told_by_library(workspace.search(rule, model));
     let searched_trimmed = told_by_library(workspace.search_trimmed(rule, model));
-    let mut table = vec![0; ENTRIES];
+    let (mut table, mut rows) = (vec![0; ENTRIES], vec![0; ENTRIES]);
     let built = raw::build(rule, &mut table);
+    raw::rows_of(&table, &mut rows);
+    raw::table_of(&rows, &mut table);
     Said {
         read: raw::read_rule(rule),
         built,
         followed: raw::follow(&table, built.finals, &LETTERS),
+        by_rows: (
+            raw::step_rows(raw::start(built.finals), &rows, LETTERS[0]),
+            raw::follow_rows(&rows, built.finals, &LETTERS),
+        ),
         judged: raw::judge(rule, &LETTERS),
         trimmed: raw::trim(&mut table, built.weight, built.finals),
         searched,
@@ -72,6 +79,10 @@ fn by_the_book(rule: &[u8], model: &[u8]) -> Said {
         read: expected::read_rule(rule),
         built,
         followed: expected::follow(&table, built.finals, &LETTERS),
+        by_rows: (
+            expected::step(expected::start(built.finals), &table, LETTERS[0]),
+            expected::follow(&table, built.finals, &LETTERS),
+        ),
         judged: expected::judge(rule, &LETTERS),
         trimmed: expected::trim(&mut table, built.weight, built.finals),
         searched,
@@ -116,6 +127,24 @@ fn written_by_the_book(rule: &[u8]) -> Option<Vec<u8>> {
         .map(|given| given.written)
 }
 
+fn formulas() -> Vec<Vec<u8>> {
+    let heavy = heavy::for_the_models().into_iter().map(|pair| pair.bytes);
+    systems::hostile().into_iter().chain(heavy).collect()
+}
+
+/// The model of two formulas, and what is said of it.
+type Made = (Written, Vec<u8>);
+
+fn model_by_library(formulas: &[u8]) -> Made {
+    let mut out = vec![0; MODEL_BYTES];
+    (raw::formula_model(formulas, &mut out), out)
+}
+
+fn model_by_the_book(formulas: &[u8]) -> Made {
+    let mut out = vec![0; MODEL_BYTES];
+    (expected::formula_model(formulas, &mut out), out)
+}
+
 /// How many rules the libraries differ on.
 fn differing(rules: &[Vec<u8>], model: &[u8], said: &[Said]) -> usize {
     let differs = |(rule, said): &(&Vec<u8>, &Said)| by_the_book(rule, model) != **said;
@@ -129,21 +158,28 @@ fn main() -> ExitCode {
     let texts = texts::hostile();
     let read: Vec<Read> = texts.iter().map(|text| text_by_library(text)).collect();
     let written: Vec<_> = rules.iter().map(|rule| written_by_library(rule)).collect();
-    let (count, text_count) = (rules.len(), texts.len());
+    let formulas = formulas();
+    let made: Vec<Made> = formulas.iter().map(|pair| model_by_library(pair)).collect();
+    let (count, text_count, pair_count) = (rules.len(), texts.len(), formulas.len());
     let checker = thread::Builder::new().stack_size(LARGE_STACK);
     let checked = checker.spawn(move || {
         let texts = texts.iter().zip(&read);
         let wrong_texts = texts.filter(|(text, read)| text_by_the_book(text) != **read);
         let written = rules.iter().zip(&written);
         let wrong_written = written.filter(|(rule, text)| written_by_the_book(rule) != **text);
-        differing(&rules, &model, &said) + wrong_texts.count() + wrong_written.count()
+        let made = formulas.iter().zip(&made);
+        let wrong_made = made.filter(|(pair, made)| model_by_the_book(pair) != **made);
+        differing(&rules, &model, &said)
+            + wrong_texts.count()
+            + wrong_written.count()
+            + wrong_made.count()
     });
     let Some(wrong) = checked.ok().and_then(|thread| thread.join().ok()) else {
         eprintln!("the plain library could not be asked");
         return ExitCode::FAILURE;
     };
     println!(
-        "{count} hostile rules through nine calls each and {text_count} hostile texts on this stack, {wrong} answered wrongly"
+        "{count} hostile rules through thirteen calls each, {text_count} hostile texts and {pair_count} hostile pairs of formulas on this stack, {wrong} answered wrongly"
     );
     ExitCode::from(u8::from(wrong > 0))
 }

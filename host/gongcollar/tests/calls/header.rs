@@ -81,10 +81,10 @@ fn the_version_goes_with_the_page() {
     let Interface { answers, calls } = interface();
     let fields = answers.iter().map(|answer| answer.fields.len()).sum();
     let parameters = calls.iter().map(|call| call.parameters.len()).sum();
-    assert_eq!(version, ["7"]);
+    assert_eq!(version, ["9"]);
     assert_eq!(
         [answers.len(), fields, calls.len(), parameters],
-        [11, 47, 15, 68]
+        [13, 52, 20, 89]
     );
 }
 

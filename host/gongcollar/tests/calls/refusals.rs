@@ -230,6 +230,6 @@ fn a_refusal_is_an_error_of_the_standard_library() {
     let said = search().unwrap_err().to_string();
     assert_eq!(
         said,
-        "refused 4 at 0: a formula for a rule, or a rule for a formula"
+        "refused 4 at 0: a kind out of its place, as a formula for a rule or a rule for a formula"
     );
 }

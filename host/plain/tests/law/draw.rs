@@ -14,7 +14,8 @@ impl Draw {
         Draw(seed)
     }
 
-    fn number(&mut self) -> u64 {
+    /// Any word.
+    pub fn number(&mut self) -> u64 {
         self.0 = self.0.wrapping_add(0x9E37_79B9_7F4A_7C15);
         let mixed = (self.0 ^ (self.0 >> 30)).wrapping_mul(0xBF58_476D_1CE4_E5B9);
         let mixed = (mixed ^ (mixed >> 27)).wrapping_mul(0x94D0_49BB_1331_11EB);
@@ -51,6 +52,20 @@ impl Draw {
             2 => vec![0x03],
             _ => proposition(self.below(propositions) as u8),
         }
+    }
+
+    /// A formula over a state and the next one: some of the propositions are the next one's.
+    pub fn step_formula(&mut self, depth: usize, propositions: usize) -> Spelled {
+        let mut formula = self.formula(depth, propositions);
+        let mut at = 0;
+        while at < formula.len() {
+            let named = formula[at] == 0x01;
+            if named && self.once_in(2) {
+                formula[at] = 0x07;
+            }
+            at += if named { 2 } else { 1 };
+        }
+        formula
     }
 
     /// A rule over the first so many propositions.

@@ -26,6 +26,16 @@ pub fn proposition(number: u8) -> Spelled {
     vec![0x01, number]
 }
 
+/// A proposition of the next state.
+pub fn next(number: u8) -> Spelled {
+    vec![0x07, number]
+}
+
+/// A formula for the initial states, and one for the step.
+pub fn system(initial: &[u8], step: &[u8]) -> Spelled {
+    [&[0x30], initial, &[0x31], step].concat()
+}
+
 pub fn letter(formula: &[u8]) -> Spelled {
     node(0x10, &[formula])
 }
