@@ -3,7 +3,7 @@ use Prim.Native.Nat.{ℕ, zero, suc, _<_}
 use native.Mathlib.Omega.{arith}
 use mathlib.Core.List.{List, [], _∷_}
 use lib.ListN.{length, getD}
-use Rattle.tables.specs.Promise.{Letters}
+use Rattle.automata.specs.Promise.{Letters}
 use Rattle.judge.specs.Verdict.{LettersTo}
 
 letter-at : (w : List ℕ) → Letters w → (i : ℕ) → i < length w → getD w i 0 < 64

@@ -10,9 +10,9 @@ use Rattle.bits.specs.Word.{bit}
 use Rattle.bits.proofs.Laws.{bit-word, bit-above, word-lt}
 use Rattle.bits.proofs.Truths.{or-T, true-T, T-true, false-no}
 use Rattle.rules.specs.declared.Known.{Known}
-use Rattle.rules.specs.Definition1.{Formula, prop, yea, nay, neg, join, Rule, letter, empty, two, again, counted, occurs}
-use Rattle.rules.specs.Definition2.{lastProposition}
-use Rattle.rules.specs.Encoding.{SmallF, Small}
+use Rattle.definitions.specs.Definition1.{Formula, prop, yea, nay, neg, join, Rule, letter, empty, two, again, counted, occurs}
+use Rattle.definitions.specs.Definition2.{lastProposition}
+use Rattle.definitions.specs.Encoding.{SmallF, Small}
 use Rattle.rules.specs.Named.{propositionCount, formulaNames, ruleNames, usesOf}
 use Rattle.rules.proofs.Accepting.{accepted-rule}
 use Rattle.demands.specs.Terms.{InFormula, InRule}

@@ -6,16 +6,16 @@ use mathlib.Core.List.{List, _++_}
 use lib.ListN.{length, take, drop}
 use lib.Seq.{take-at}
 use Rattle.rules.specs.declared.Known.{Known}
-use Rattle.rules.specs.Definition1.{Rule}
+use Rattle.definitions.specs.Definition1.{Rule}
 use Rattle.rules.specs.Weight.{weightOf}
-use Rattle.rules.specs.Encoding.{spell}
+use Rattle.definitions.specs.Encoding.{spell}
 use Rattle.rules.specs.Answer.{knownOf}
 use Rattle.rules.specs.Answer as rules
 use Rattle.rules.proofs.Faulting.{refused-line, line-refused}
-use Rattle.texts.specs.Text.{text}
+use Rattle.grammar.specs.Text.{text}
 use Rattle.texts.specs.Answer as answer
 use Rattle.texts.specs.Answer.{Result, given, refused, told, Gives, ReadRight, WriteRight}
-use Rattle.texts.proofs.Lengths.{text-lengths}
+use Rattle.grammar.proofs.Lengths.{text-lengths}
 use Rattle.texts.proofs.Sharing.{one-rule, one-place, text-injective}
 use Rattle.texts.proofs.BackAndForth as back-and-forth
 use Rattle.texts.proofs.Once as once

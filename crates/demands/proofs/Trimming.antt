@@ -5,7 +5,7 @@ use mathlib.Core.Path.{_≡_, refl, sym, ap, subst, _∙_}
 use mathlib.Core.List.{List}
 use lib.ListN.{take}
 use Rattle.rules.specs.declared.Known.{Known}
-use Rattle.rules.specs.Definition1.{Rule}
+use Rattle.definitions.specs.Definition1.{Rule}
 use Rattle.rules.specs.Answer.{knownOf}
 use Rattle.tables.specs.Answer as tables
 use Rattle.tables.specs.Beyond.{Beyond}
@@ -16,7 +16,7 @@ use Rattle.trims.proofs.Lone.{alone-if-none}
 use Rattle.trims.proofs.Built.{built-stands, trimmed-serves}
 use Rattle.trims.proofs.Once as trims-once
 use Rattle.tables.proofs.promise.Beyonds.{beyond-then}
-use Rattle.passes.specs.Right.{Answer, found, nothing}
+use Rattle.levels.specs.Right.{Answer, found, nothing}
 use Rattle.search.specs.Answer.{Slices, Result, answered, lengthOf, refusal, searched}
 use Rattle.search.proofs.Once.{not-searched}
 use Rattle.trimmed_search.specs.Answer.{TrimmedSearches, TrimmedSearchRight}

@@ -6,15 +6,15 @@ use mathlib.Core.Logic.{_↔_}
 use mathlib.Core.List.{List}
 use lib.Dec.{T}
 use Rattle.bits.specs.Word.{bit}
-use Rattle.rules.specs.Definition1.{Rule}
-use Rattle.tables.specs.Table.{Table}
+use Rattle.definitions.specs.Definition1.{Rule}
+use Rattle.automata.specs.Table.{Table}
 use Rattle.models.specs.Model.{Model, Run}
 use Rattle.models.specs.Faults.{ModelFault}
 use Rattle.lasting.specs.declared.LastingAnswer.{LastingAnswer}
 use Rattle.lasting.specs.Endless.{Endless, LastingRun, LastingSet}
 use Rattle.lasting.specs.Alive.{alive}
 use Rattle.lasting.specs.Answer.{Result, lasts, refused, told, LastingRight}
-use Rattle.passes.specs.Right.{Answer, Right}
+use Rattle.levels.specs.Right.{Answer, Right}
 use Rattle.demands.specs.Terms.{IsModel, modelIn}
 
 -- ---- the model without the other states; its states and letters are kept

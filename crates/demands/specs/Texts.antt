@@ -6,13 +6,13 @@ use mathlib.Core.Logic.{_↔_}
 use mathlib.Core.List.{List, _++_}
 use lib.ListN.{length, take, drop}
 use Rattle.rules.specs.declared.Known.{Known}
-use Rattle.rules.specs.Definition1.{Rule}
+use Rattle.definitions.specs.Definition1.{Rule}
 use Rattle.rules.specs.Weight.{weightOf}
-use Rattle.rules.specs.Encoding.{spell, Small}
+use Rattle.definitions.specs.Encoding.{spell, Small}
 use Rattle.rules.specs.Answer.{knownOf}
 use Rattle.rules.specs.Faults.{RuleFault}
 use Rattle.texts.specs.declared.TextAnswer.{TextAnswer}
-use Rattle.texts.specs.Text.{text}
+use Rattle.grammar.specs.Text.{text}
 use Rattle.texts.specs.Sharing.{IsText, Shares}
 use Rattle.texts.specs.Answer.{Result, given, refused, told, ReadRight, WriteRight}
 use Rattle.texts.specs.Strings.{broken-texts, AllShared}
@@ -143,5 +143,5 @@ pub record Texts : Type 0 where
   pub one-write : OneWrite
   pub first-bytes-decide : FirstBytesDecide
   pub one-text-line : OneTextLine
-  -- ten strings that are no text, each with the length of the longest beginning that some rule text shares
+  -- eighteen strings that are no text, each with the length of the longest beginning that some rule text shares
   pub places-held : AllShared broken-texts

@@ -6,20 +6,20 @@ use mathlib.Core.Logic.{_⊎_, _↔_}
 use mathlib.Core.List.{List}
 use lib.ListN.{length, getD, take}
 use Rattle.rules.specs.declared.Known.{Known}
-use Rattle.rules.specs.Definition1.{Rule}
-use Rattle.rules.specs.Definition2.{Sat}
+use Rattle.definitions.specs.Definition1.{Rule}
+use Rattle.definitions.specs.Definition2.{Sat}
 use Rattle.rules.specs.Weight.{weightOf}
 use Rattle.rules.specs.Answer.{knownOf}
-use Rattle.tables.specs.Table.{tableOf, Accepts}
+use Rattle.automata.specs.Table.{tableOf, Accepts}
 use Rattle.tables.specs.Beyond.{Beyond}
-use Rattle.tables.specs.IsTable.{Words}
-use Rattle.tables.specs.Promise.{Letters, Serves}
+use Rattle.automata.specs.IsTable.{Words}
+use Rattle.automata.specs.Promise.{Letters, Serves}
 use Rattle.trims.specs.declared.TrimAnswer.{TrimAnswer}
 use Rattle.trims.specs.Kept.{Kept}
 use Rattle.trims.specs.Answer as trims
 use Rattle.lasting.specs.Endless.{LastingRun}
 use Rattle.search.specs.declared.SearchAnswer.{SearchAnswer}
-use Rattle.passes.specs.Right.{Answer, found, nothing, Matches, Shown, Pairs}
+use Rattle.levels.specs.Right.{Answer, found, nothing, Matches, Shown, Pairs}
 use Rattle.search.specs.Answer.{Slices, LongEnough, Result, answered, refused, told, SearchRight}
 use Rattle.trimmed_search.specs.Answer.{TrimmedFor, TrimmedSearchRight}
 use Rattle.trimmed_search.specs.Alike.{Alike}

@@ -6,10 +6,10 @@ use mathlib.Core.Logic.{_↔_}
 use mathlib.Core.Bool.{true}
 use mathlib.Core.List.{List, []}
 use lib.ListN.{length}
-use Rattle.rules.specs.Definition1.{Rule}
-use Rattle.rules.specs.Definition2.{Sat}
-use Rattle.tables.specs.Table.{tableOf}
-use Rattle.tables.specs.Promise.{Letters, Serves}
+use Rattle.definitions.specs.Definition1.{Rule}
+use Rattle.definitions.specs.Definition2.{Sat}
+use Rattle.automata.specs.Table.{tableOf}
+use Rattle.automata.specs.Promise.{Letters, Serves}
 use Rattle.walkers.specs.declared.Walker.{Walker}
 use Rattle.walkers.specs.declared.Step.{Step}
 use Rattle.walkers.specs.declared.StepAnswer.{StepAnswer}

@@ -6,7 +6,7 @@ use mathlib.Core.List.{List}
 use Rattle.rules.specs.Answer as rules
 use Rattle.models.specs.Answer as models
 use Rattle.tables.specs.declared.TableAnswer.{TableAnswer}
-use Rattle.tables.specs.IsTable.{Words}
+use Rattle.automata.specs.IsTable.{Words}
 use Rattle.tables.specs.Answer as tables
 use Rattle.tables.proofs.promise.Once as tables-once
 use Rattle.judge.specs.declared.JudgeAnswer.{JudgeAnswer}
@@ -20,25 +20,34 @@ use Rattle.lasting.specs.Answer as lasting
 use Rattle.lasting.proofs.Once as lasting-once
 use Rattle.search.specs.Answer as search
 use Rattle.search.proofs.Once as search-once
-use Rattle.exports.specs.declared.reading.GcRule.{GcRule}
-use Rattle.exports.specs.declared.reading.GcModel.{GcModel}
-use Rattle.exports.specs.declared.building.GcBuilt.{GcBuilt}
-use Rattle.exports.specs.declared.judging.GcJudged.{GcJudged}
-use Rattle.exports.specs.declared.stepping.GcWalker.{GcWalker}
-use Rattle.exports.specs.declared.stepping.GcStepped.{GcStepped}
-use Rattle.exports.specs.declared.following.GcMoved.{GcMoved}
-use Rattle.exports.specs.declared.lasting_states.GcLasts.{GcLasts}
-use Rattle.exports.specs.declared.searching.GcSearched.{GcSearched}
-use Rattle.exports.specs.Numbers.{ruleNumbers, modelNumbers, builtNumbers, judgedNumbers, steppedNumbers, movedNumbers, lastingNumbers, searchedNumbers, textNumbers, walkerOf, walkerNumbers, beside, trimmedNumbers}
-use Rattle.exports.specs.Promise.{GcBuilds, GcJudges, GcLasting, GcSearches, ReadsText, WritesText, GcTrims, GcSearchesTrimmed}
+use Rattle.c_answers.specs.declared.reading.GcRule.{GcRule}
+use Rattle.c_answers.specs.declared.reading.GcModel.{GcModel}
+use Rattle.c_answers.specs.declared.building.GcBuilt.{GcBuilt}
+use Rattle.c_answers.specs.declared.judging.GcJudged.{GcJudged}
+use Rattle.c_answers.specs.declared.stepping.GcWalker.{GcWalker}
+use Rattle.c_answers.specs.declared.stepping.GcStepped.{GcStepped}
+use Rattle.c_answers.specs.declared.following.GcMoved.{GcMoved}
+use Rattle.c_answers.specs.declared.lasting_states.GcLasts.{GcLasts}
+use Rattle.c_answers.specs.declared.searching.GcSearched.{GcSearched}
+use Rattle.c_answers.specs.Numbers.{ruleNumbers, modelNumbers, builtNumbers, judgedNumbers, steppedNumbers, movedNumbers, lastingNumbers, searchedNumbers, textNumbers, doneNumbers, writtenNumbers, walkerOf, walkerNumbers, beside, trimmedNumbers}
+use Rattle.exports.specs.Promise.{GcBuilds, GcJudges, GcLasting, GcSearches, ReadsText, WritesText, GcTrims, GcModels, GcRowsOf, GcTableOf, GcSearchesTrimmed}
 use Rattle.trims.specs.declared.TrimAnswer.{TrimAnswer}
 use Rattle.trims.specs.Answer as trims
 use Rattle.trims.proofs.Once as trims-once
+use Rattle.letter_rows.specs.declared.ConvertAnswer.{ConvertAnswer}
+use Rattle.letter_rows.specs.Answer as rows
+use Rattle.letter_rows.specs.Layouts.{tableBy}
+use Rattle.letter_rows.proofs.Once as rows-once
+use Rattle.formula_models.specs.declared.FormulasAnswer.{FormulasAnswer}
+use Rattle.formula_models.specs.Answer as formula-models
+use Rattle.formula_models.proofs.Once as models-once
+use Rattle.c_answers.specs.declared.modelling.GcWritten.{GcWritten}
+use Rattle.c_answers.specs.declared.converting.GcDone.{GcDone}
 use Rattle.trimmed_search.proofs.Once.{one-trimmed-answer}
-use Rattle.exports.specs.declared.trimming.GcTrimmed.{GcTrimmed}
+use Rattle.c_answers.specs.declared.trimming.GcTrimmed.{GcTrimmed}
 use Rattle.texts.specs.Answer as texts
 use Rattle.texts.proofs.Once as texts-once
-use Rattle.exports.specs.declared.texting.GcText.{GcText}
+use Rattle.c_answers.specs.declared.texting.GcText.{GcText}
 
 pub one-rule : (s : List ℕ) (r r′ : GcRule) → r ≡ ruleNumbers (rules.answer s) → r′ ≡ ruleNumbers (rules.answer s) → r ≡ r′
 one-rule s r r′ e e′ = e ∙ sym e′
@@ -61,6 +70,28 @@ one-lent-step t w v v′ x r r′ e e′ =
 
 pub one-follow : (t : List ℕ) (finals : ℕ) (w : List ℕ) (r r′ : GcMoved) → r ≡ movedNumbers (followOf t finals w) → r′ ≡ movedNumbers (followOf t finals w) → r ≡ r′
 one-follow t finals w r r′ e e′ = e ∙ sym e′
+
+pub one-row-step : (t : List ℕ) (w : GcWalker) (x : ℕ) (r r′ : GcStepped)
+    → r ≡ steppedNumbers w (walkers.stepOf (tableBy t) (walkerOf w) x) → r′ ≡ steppedNumbers w (walkers.stepOf (tableBy t) (walkerOf w) x) → r ≡ r′
+one-row-step t w x r r′ e e′ = e ∙ sym e′
+
+pub one-row-follow : (t : List ℕ) (finals : ℕ) (w : List ℕ) (r r′ : GcMoved) → r ≡ movedNumbers (followOf (tableBy t) finals w) → r′ ≡ movedNumbers (followOf (tableBy t) finals w) → r ≡ r′
+one-row-follow t finals w r r′ e e′ = e ∙ sym e′
+
+pub one-rows-of : (t before u v : List ℕ) (r r′ : GcDone) → GcRowsOf t before u r → GcRowsOf t before v r′ → (r ≡ r′) × (u ≡ v)
+one-rows-of t before u v r r′ x x′ =
+    let o = rows-once.one-answer (x .answer) (x′ .answer) (x .right) (x′ .right) in
+    (x .given ∙ ap (λ (a : ConvertAnswer). doneNumbers (rows.told a)) (o .0) ∙ sym (x′ .given), o .1)
+
+pub one-table-of : (t before u v : List ℕ) (r r′ : GcDone) → GcTableOf t before u r → GcTableOf t before v r′ → (r ≡ r′) × (u ≡ v)
+one-table-of t before u v r r′ x x′ =
+    let o = rows-once.one-answer (x .answer) (x′ .answer) (x .right) (x′ .right) in
+    (x .given ∙ ap (λ (a : ConvertAnswer). doneNumbers (rows.told a)) (o .0) ∙ sym (x′ .given), o .1)
+
+pub one-formula-model : (s before u v : List ℕ) (r r′ : GcWritten) → GcModels s before u r → GcModels s before v r′ → (r ≡ r′) × (u ≡ v)
+one-formula-model s before u v r r′ x x′ =
+    let o = models-once.one-answer s before u v (x .answer) (x′ .answer) (x .right) (x′ .right) in
+    (x .given ∙ ap (λ (a : FormulasAnswer). writtenNumbers (formula-models.told a)) (o .0) ∙ sym (x′ .given), o .1)
 
 pub one-build : (s t u v : List ℕ) (r r′ : GcBuilt) → Words u → Words v → GcBuilds s t u r → GcBuilds s t v r′ → (r ≡ r′) × (u ≡ v)
 one-build s t u v r r′ hu hv b b′ =

@@ -1,34 +1,10 @@
-// Following a whole sequence over a table.
+// Following a whole sequence over a table, or over its rows by letter.
 ghost use mathlib.Core.Path.{_≡_};
-ghost use Rattle.walkers.specs.Walks.{ending, followOf};
-ghost use Rattle.exports.specs.Numbers.{movedNumbers};
-use walkers::FollowAnswer;
-
-// What a sequence comes to: 1 where a final is in the set at its end.
-#[repr(C)]
-pub struct GcMoved {
-    pub refused: u64,
-    pub place: u64,
-    pub matches: u64,
-}
-
-// The numbers for each case of the answer.
-fn moved_numbers(answer: FollowAnswer) -> GcMoved
-    ensures { λ r. ⌜ r ≡ movedNumbers (ending answer) ⌝ }
-{
-    match answer {
-        FollowAnswer::Ended(matches) => GcMoved {
-            refused: 0,
-            place: 0,
-            matches: matches as u64,
-        },
-        FollowAnswer::Refused(x) => GcMoved {
-            refused: x.number(),
-            place: x.place() as u64,
-            matches: 0,
-        },
-    }
-}
+ghost use Rattle.walkers.specs.Walks.{followOf};
+ghost use Rattle.letter_rows.specs.Layouts.{tableBy};
+ghost use Rattle.c_answers.specs.Numbers.{movedNumbers};
+use c_answers::following::GcMoved;
+use c_answers::following::moved_numbers;
 
 // Follows the letters over the table from state 0.
 #[no_mangle]
@@ -36,4 +12,12 @@ pub extern "C" fn gc_follow(table: &[u64], finals: u64, letters: &[u8]) -> GcMov
     ensures { λ r. ⌜ r ≡ movedNumbers (followOf (now (table .entry)) finals (now (letters .entry))) ⌝ }
 {
     moved_numbers(walkers::follow(table, finals, letters))
+}
+
+// Follows the letters over rows by letter from state 0.
+#[no_mangle]
+pub extern "C" fn gc_follow_rows(rows: &[u64], finals: u64, letters: &[u8]) -> GcMoved
+    ensures { λ r. ⌜ r ≡ movedNumbers (followOf (tableBy (now (rows .entry))) finals (now (letters .entry))) ⌝ }
+{
+    moved_numbers(row_walkers::follow_rows(rows, finals, letters))
 }

@@ -2,46 +2,11 @@
 ghost use mathlib.Core.Path.{_≡_};
 ghost use Rattle.rules.specs.Answer as rules;
 ghost use Rattle.models.specs.Answer as models;
-ghost use Rattle.exports.specs.Numbers.{ruleNumbers, stateNumbers, modelNumbers};
-use models::ModelAnswer;
-use rules::RuleAnswer;
-
-// What reading a rule gives back: the weight, and the set of the propositions that it names, bit i for proposition i.
-#[repr(C)]
-pub struct GcRule {
-    pub refused: u64,
-    pub place: u64,
-    pub weight: u64,
-    pub uses: u64,
-}
-
-// What reading a model gives back.
-#[repr(C)]
-pub struct GcModel {
-    pub refused: u64,
-    pub place: u64,
-    pub states: u64,
-}
-
-// The numbers for each case of the answer.
-fn rule_numbers(answer: RuleAnswer) -> GcRule
-    ensures { λ r. ⌜ r ≡ ruleNumbers (rules.told answer) ⌝ }
-{
-    match answer {
-        RuleAnswer::Accepted(known) => GcRule {
-            refused: 0,
-            place: 0,
-            weight: known.weight as u64,
-            uses: known.uses,
-        },
-        RuleAnswer::Refused(x) => GcRule {
-            refused: x.number(),
-            place: x.place() as u64,
-            weight: 0,
-            uses: 0,
-        },
-    }
-}
+ghost use Rattle.c_answers.specs.Numbers.{ruleNumbers, modelNumbers};
+use c_answers::reading::GcModel;
+use c_answers::reading::GcRule;
+use c_answers::reading::model_numbers;
+use c_answers::reading::rule_numbers;
 
 // Reads a rule.
 #[no_mangle]
@@ -49,24 +14,6 @@ pub extern "C" fn gc_read_rule(rule: &[u8]) -> GcRule
     ensures { λ r. ⌜ r ≡ ruleNumbers (rules.answer (now (rule .entry))) ⌝ }
 {
     rule_numbers(rules::read_rule(rule))
-}
-
-// The numbers for each case of the answer, of a model with so many states.
-fn model_numbers(states: usize, answer: ModelAnswer) -> GcModel
-    ensures { λ r. ⌜ r ≡ stateNumbers states (models.verdictOf answer) ⌝ }
-{
-    match answer {
-        ModelAnswer::Accepted => GcModel {
-            refused: 0,
-            place: 0,
-            states: states as u64,
-        },
-        ModelAnswer::Refused(x) => GcModel {
-            refused: x.number(),
-            place: x.place() as u64,
-            states: 0,
-        },
-    }
 }
 
 // Reads a model.

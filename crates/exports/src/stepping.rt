@@ -1,87 +1,31 @@
 // Walkers: a fresh one, and one step, by value or where the walker stands in the host's own record.
 ghost use mathlib.Core.Path.{_≡_};
 ghost use Rattle.walkers.specs.Steps as walkers;
-ghost use Rattle.exports.specs.Numbers.{walkerOf, walkerNumbers, beside, steppedNumbers};
-use crate::following::GcMoved;
-use walkers::Step;
-use walkers::StepAnswer;
+ghost use Rattle.letter_rows.specs.Layouts.{tableBy};
+ghost use Rattle.c_answers.specs.Numbers.{walkerOf, walkerNumbers, beside, steppedNumbers};
+use c_answers::following::GcMoved;
+use c_answers::stepping::GcStepped;
+use c_answers::stepping::GcWalker;
+use c_answers::stepping::Stepping;
+use c_answers::stepping::given_back;
+use c_answers::stepping::stepped_numbers;
+use c_answers::stepping::walker_numbers;
+use c_answers::stepping::walker_of;
 use walkers::Walker;
-
-// A walker as the host keeps it; of `matched` it matters whether it is 0.
-#[repr(C)]
-pub struct GcWalker {
-    pub set: u64,
-    pub finals: u64,
-    pub taken: u32,
-    pub first: u32,
-    pub matched: u32,
-}
-
-// What a step gives back: the walker, as it came where the step is refused, and 1 where a final is in its set.
-#[repr(C)]
-pub struct GcStepped {
-    pub refused: u64,
-    pub place: u64,
-    pub matches: u64,
-    pub walker: GcWalker,
-}
-
-// The same, with the walker and what is said apart: the walker that is lent is replaced by the first alone.
-struct Stepping {
-    walker: GcWalker,
-    says: GcMoved,
-}
-
-fn walker_of(w: GcWalker) -> Walker
-    ensures { λ r. ⌜ r ≡ walkerOf w ⌝ }
-{
-    Walker::at(w.set, w.finals, w.taken, w.first, w.matched != 0)
-}
-
-fn walker_numbers(w: Walker) -> GcWalker
-    ensures { λ r. ⌜ r ≡ walkerNumbers w ⌝ }
-{
-    GcWalker {
-        set: w.set,
-        finals: w.finals,
-        taken: w.taken,
-        first: w.first,
-        matched: w.matched as u32,
-    }
-}
-
-// The numbers for each case of the answer; a refusal leaves the walker as it came, whatever its mark was.
-fn stepped_numbers(came: GcWalker, step: Step) -> Stepping
-    ensures { λ r. ⌜ beside (r .walker) (r .says) ≡ steppedNumbers came (walkers.told step) ⌝ }
-{
-    let moved = step.walker;
-    let answer = step.answer;
-    match answer {
-        StepAnswer::Moved(matches) => {
-            let walker = walker_numbers(moved);
-            let says = GcMoved {
-                refused: 0,
-                place: 0,
-                matches: matches as u64,
-            };
-            Stepping { walker, says }
-        }
-        StepAnswer::Refused(x) => {
-            let says = GcMoved {
-                refused: x.number(),
-                place: x.place() as u64,
-                matches: 0,
-            };
-            Stepping { walker: came, says }
-        }
-    }
-}
 
 fn stepped(walker: GcWalker, table: &[u64], letter: u8) -> Stepping
     ensures { λ r. ⌜ beside (r .walker) (r .says) ≡ steppedNumbers walker (walkers.stepOf (now (table .entry)) (walkerOf walker) letter) ⌝ }
 {
     let w = walker_of(walker);
     stepped_numbers(walker, w.step(table, letter))
+}
+
+// The same over rows by letter.
+fn stepped_rows(walker: GcWalker, rows: &[u64], letter: u8) -> Stepping
+    ensures { λ r. ⌜ beside (r .walker) (r .says) ≡ steppedNumbers walker (walkers.stepOf (tableBy (now (rows .entry))) (walkerOf walker) letter) ⌝ }
+{
+    let w = walker_of(walker);
+    stepped_numbers(walker, row_walkers::step_rows(w, rows, letter))
 }
 
 // A fresh walker.
@@ -97,15 +41,15 @@ pub extern "C" fn gc_start(finals: u64) -> GcWalker
 pub extern "C" fn gc_step(walker: GcWalker, table: &[u64], letter: u8) -> GcStepped
     ensures { λ r. ⌜ r ≡ steppedNumbers walker (walkers.stepOf (now (table .entry)) (walkerOf walker) letter) ⌝ }
 {
-    let s = stepped(walker, table, letter);
-    let says = s.says;
-    let walker = s.walker;
-    GcStepped {
-        refused: says.refused,
-        place: says.place,
-        matches: says.matches,
-        walker,
-    }
+    given_back(stepped(walker, table, letter))
+}
+
+// Steps a walker over rows by letter, and gives it back.
+#[no_mangle]
+pub extern "C" fn gc_step_rows(walker: GcWalker, rows: &[u64], letter: u8) -> GcStepped
+    ensures { λ r. ⌜ r ≡ steppedNumbers walker (walkers.stepOf (tableBy (now (rows .entry))) (walkerOf walker) letter) ⌝ }
+{
+    given_back(stepped_rows(walker, rows, letter))
 }
 
 // Steps a walker where it stands.

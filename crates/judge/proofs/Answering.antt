@@ -5,12 +5,12 @@ use mathlib.Core.Bool.{Bool}
 use mathlib.Core.List.{List}
 use lib.ListN.{length}
 use Rattle.rules.specs.declared.Known.{Known}
-use Rattle.rules.specs.declared.Refusal.{Refusal}
+use Rattle.definitions.specs.declared.Refusal.{Refusal}
 use Rattle.rules.specs.declared.RuleAnswer.{RuleAnswer}
 use Rattle.rules.specs.declared.RuleAnswer.the-variants.{Accepted, Refused}
-use Rattle.rules.specs.Definition1.{Rule}
-use Rattle.rules.specs.Refusals.{number, place}
-use Rattle.rules.specs.Numbers.{badLetter, tooManyLetters}
+use Rattle.definitions.specs.Definition1.{Rule}
+use Rattle.definitions.specs.Refusals.{number, place}
+use Rattle.definitions.specs.Numbers.{badLetter, tooManyLetters}
 use Rattle.rules.specs.Answer as rules
 use Rattle.rules.specs.Answer.{answer, AcceptedAs, knownOf}
 use Rattle.rules.proofs.Accepting.{accepted-rule, accepted-stands}

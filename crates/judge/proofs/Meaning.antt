@@ -8,16 +8,16 @@ use lib.Dec.{T}
 use lib.ListN.{length, getD, take, drop, length-append, take-append-drop}
 use lib.Seq.{take-take, drop-drop, drop-append-le, take-at, take-append-seam, drop-append-seam, length-take-le, length-slice, slice-empty, slice-cons, take-length}
 use Rattle.bits.specs.Says.{Says}
-use Rattle.rules.specs.declared.kinds.Pair.{Pair}
-use Rattle.rules.specs.declared.kinds.Pair.the-variants.{Then, Overlap, Either, Within, Both}
-use Rattle.rules.specs.declared.kinds.Repeat.the-variants.{Star, Plus}
-use Rattle.rules.specs.Definition1.{Formula, Rule, letter, empty, two, again, counted}
-use Rattle.rules.specs.Definition2.{holds, OneLetter, Parts, Overlaps, Begins, Repeats, none, more, CountedParts, Sat}
+use Rattle.definitions.specs.declared.kinds.Pair.{Pair}
+use Rattle.definitions.specs.declared.kinds.Pair.the-variants.{Then, Overlap, Either, Within, Both}
+use Rattle.definitions.specs.declared.kinds.Repeat.the-variants.{Star, Plus}
+use Rattle.definitions.specs.Definition1.{Formula, Rule, letter, empty, two, again, counted}
+use Rattle.definitions.specs.Definition2.{holds, OneLetter, Parts, Overlaps, Begins, Repeats, none, more, CountedParts, Sat}
 use Rattle.judge.specs.Parts.{Few, part, yes, Judged, Filled}
 use Rattle.judge.specs.inner.Cut.{LetterAt, ThenAt, OverlapAt, BeginsAt, WithinAt, PairAt, StepAt, StarAt, PlusOf}
 use Rattle.judge.specs.inner.Judging.{InRow}
-use Rattle.rules.specs.declared.counts.Counts.{Counts}
-use Rattle.rules.proofs.PartsInARow.{OnePartMore, none-counted, part-counted, counted-parts, none-at-all}
+use Rattle.definitions.specs.declared.counts.Counts.{Counts}
+use Rattle.definitions.proofs.PartsInARow.{OnePartMore, none-counted, part-counted, counted-parts, none-at-all}
 use Rattle.bits.proofs.Truths.{T-true}
 use Rattle.bits.proofs.Sayings.{says-map, says-in}
 

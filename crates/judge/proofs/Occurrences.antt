@@ -12,9 +12,9 @@ use Rattle.bits.specs.Says.{Says}
 use Rattle.bits.specs.Word.{num, many}
 use Rattle.bits.proofs.Laws.{many-ext}
 use Rattle.bits.proofs.Sayings.{say-yes, say-no, said-no, says-once, says-map, says-le}
-use Rattle.rules.specs.declared.counts.Counts.{Counts}
-use Rattle.rules.specs.Definition1.{Formula, occurs}
-use Rattle.rules.specs.Definition2.{holds, satisfying, Sat}
+use Rattle.definitions.specs.declared.counts.Counts.{Counts}
+use Rattle.definitions.specs.Definition1.{Formula, occurs}
+use Rattle.definitions.specs.Definition2.{holds, satisfying, Sat}
 use Rattle.judge.specs.Parts.{Few, part, yes, Judged, Filled}
 use Rattle.judge.specs.inner.Cut.{LetterAt, lettersAt, CountedOn, OccursAt}
 use Rattle.judge.proofs.Meaning.{part-split, part-one, by-cell}

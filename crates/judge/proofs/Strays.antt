@@ -7,7 +7,7 @@ use native.Mathlib.Nat.{eq-or-lt-of-le}
 use native.Mathlib.Decide.{decLt}
 use native.Mathlib.Omega.{arith}
 use lib.ListN.{length, getD}
-use Rattle.rules.specs.Definition2.{letterCount}
+use Rattle.definitions.specs.Definition2.{letterCount}
 use Rattle.judge.specs.Verdict.{LettersTo, StrayAt}
 
 -- letters, one after the other

@@ -1,7 +1,7 @@
 -- The number and the place of each refusal of the plain judge. Assumes nothing: these are definitions.
 use Prim.Native.Nat.{ℕ}
-use Rattle.rules.specs.Refusals as rules
-use Rattle.rules.specs.Numbers.{badLetter, tooManyLetters}
+use Rattle.definitions.specs.Refusals as rules
+use Rattle.definitions.specs.Numbers.{badLetter, tooManyLetters}
 use Rattle.judge.specs.declared.Refusal.{Refusal}
 use Rattle.judge.specs.declared.Refusal.the-variants.{OfRule, TooManyLetters, BadLetter}
 

@@ -6,9 +6,9 @@ use mathlib.Core.List.{List}
 use lib.ListN.{length, getD}
 use Rattle.bits.specs.Says.{Says}
 use Rattle.rules.specs.declared.Known.{Known}
-use Rattle.rules.specs.Definition1.{Rule}
-use Rattle.rules.specs.Definition2.{letterCount, Sat}
-use Rattle.rules.specs.Numbers.{badLetter, tooManyLetters}
+use Rattle.definitions.specs.Definition1.{Rule}
+use Rattle.definitions.specs.Definition2.{letterCount, Sat}
+use Rattle.definitions.specs.Numbers.{badLetter, tooManyLetters}
 use Rattle.rules.specs.Answer as rules
 use Rattle.rules.specs.Answer.{answer, AcceptedAs, knownOf}
 use Rattle.judge.specs.declared.JudgeAnswer.{JudgeAnswer}

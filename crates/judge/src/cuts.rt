@@ -4,8 +4,8 @@ ghost use Prim.Native.Nat.{_+_, _<_, _≤_};
 ghost use Rattle.bits.specs.Says.{Says};
 ghost use Rattle.judge.specs.Parts.{side, yes};
 ghost use Rattle.judge.specs.inner.Cut.{ThenAt, OverlapAt, BeginsAt, WithinAt, PairAt, StarAt, lettersAt, CountedOn, OccursAt, CellAt};
-use rules::counts::Counts;
-use rules::kinds::Pair;
+use definitions::counts::Counts;
+use definitions::kinds::Pair;
 
 // The most letters that the judge takes.
 pub const LETTER_LIMIT: usize = 16;

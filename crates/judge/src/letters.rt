@@ -1,6 +1,6 @@
 // Whether the bytes of a sequence are letters.
 ghost use Rattle.judge.specs.Verdict.{ScannedAs};
-use rules::formulas::LETTER_COUNT;
+use formulas::LETTER_COUNT;
 
 const LAST_LETTER: u8 = (LETTER_COUNT - 1) as u8;
 

@@ -2,10 +2,10 @@
 ghost use mathlib.Core.Path.{_≡_};
 ghost use Rattle.judge.specs.Refusals.{number, place};
 ghost use Rattle.judge.specs.Verdict.{told, JudgeRight};
+use definitions::numbers::BAD_LETTER;
+use definitions::numbers::TOO_MANY_LETTERS;
 use rules::Known;
 use rules::RuleAnswer;
-use rules::numbers::BAD_LETTER;
-use rules::numbers::TOO_MANY_LETTERS;
 
 mod cuts; // what each operator asks of one part of the letters
 mod parts; // the answers for all parts at once
@@ -18,7 +18,7 @@ use letters::Scanned;
 // Why nothing is judged.
 pub enum Refusal {
     // the rule's own
-    OfRule(rules::Refusal),
+    OfRule(definitions::Refusal),
     // there are more than 16
     TooManyLetters,
     // the letter at this place is none

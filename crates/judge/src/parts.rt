@@ -9,10 +9,10 @@ use crate::cuts::Answers;
 use crate::cuts::Operator;
 use crate::cuts::SIDE;
 use crate::cuts::cell;
-use rules::counts::Counts;
-use rules::counts::after_one;
-use rules::formulas::holds_at;
-use rules::kinds::Pair;
+use definitions::counts::Counts;
+use definitions::counts::after_one;
+use definitions::kinds::Pair;
+use formulas::holds_at;
 
 // The parts that begin at i.
 fn row(op: Operator, a: &Answers, b: &Answers, i: usize) -> u64

@@ -13,12 +13,12 @@ use crate::parts::pair_parts;
 use crate::parts::plus_parts;
 use crate::parts::row_parts;
 use crate::parts::star_parts;
-use rules::counts::counts_at;
+use definitions::counts::counts_at;
+use definitions::kinds::Kind;
+use definitions::kinds::Repeat;
+use definitions::kinds::RuleKind;
+use definitions::kinds::kind_of;
 use rules::ends::rule_past;
-use rules::kinds::Kind;
-use rules::kinds::Repeat;
-use rules::kinds::RuleKind;
-use rules::kinds::kind_of;
 
 // Judges the rule that stands at `at`.
 fn judge_at(rule: &[u8], at: usize, letters: &[u8]) -> Answers

@@ -16,15 +16,15 @@ use Rattle.passes.specs.Told.{answerOf}
 use Rattle.lines.specs.Text.{foundText, noneText, searchedText, usesText, textOf}
 use Rattle.writing.specs.Refused.{refusedText}
 use Rattle.writing.specs.Wrote.{Wrote}
-use Rattle.lines.specs.Room.{lineRoom, usesRoom, shownLength, Fits}
+use Rattle.lines.specs.Room.{lineRoom, usesRoom, shownLength, LineFits}
 use Rattle.writing.proofs.Wrotes.{wrote-more}
 use Rattle.lines.proofs.Fitting.{found-room, none-room, refused-room}
 
 -- what was found
-module _ (x : Searched) (run out : List ℕ) (fits : Fits (givenLength x) run out) where
+module _ (x : Searched) (run out : List ℕ) (fits : LineFits (givenLength x) run out) where
   pub found-fits : (long pairs : ℕ) → x ≡ Found long pairs → long < 2 ^ 64 → pairs < 2 ^ 64 → (long ≤ length run) × (length (foundText long (take long run) pairs) ≤ length out)
   found-fits long pairs q h l =
-      let f : Fits long run out = subst (λ (y : Searched). Fits (givenLength y) run out) q fits in
+      let f : LineFits long run out = subst (λ (y : Searched). LineFits (givenLength y) run out) q fits in
       let r = found-room long pairs (take long run) h l (f .run-short) in
       let t = f .room in
       (f .run-there, omega arith)
@@ -36,7 +36,7 @@ module _ (x : Searched) (run out : List ℕ) (fits : Fits (givenLength x) run ou
     pub found-says : (long pairs : ℕ) → x ≡ Found long pairs → long < 2 ^ 64 → pairs < 2 ^ 64 → Wrote (foundText long (take long run) pairs) out 0 after end
         → Wrote (searchedText (givenLength x) (answerOf x run)) out 0 after end × (end + usesRoom ≤ lineRoom)
     found-says long pairs q h l w =
-        let f : Fits long run out = subst (λ (y : Searched). Fits (givenLength y) run out) q fits in
+        let f : LineFits long run out = subst (λ (y : Searched). LineFits (givenLength y) run out) q fits in
         let r = found-room long pairs (take long run) h l (f .run-short) in
         let e = w .ends in
         (subst (λ (y : Searched). Wrote (searchedText (givenLength y) (answerOf y run)) out 0 after end) (sym q) w, omega arith)
@@ -49,9 +49,9 @@ module _ (x : Searched) (run out : List ℕ) (fits : Fits (givenLength x) run ou
         (subst (λ (y : Searched). Wrote (searchedText (givenLength y) (answerOf y run)) out 0 after end) (sym q) w, omega arith)
 
 -- the whole
-module _ (answer : SearchAnswer) (run out : List ℕ) (fits : Fits (shownLength answer) run out) where
-  pub searched-fits : {x : Searched} {k : Known} → answer ≡ Answered x k → Fits (givenLength x) run out
-  searched-fits e = subst (λ (a : SearchAnswer). Fits (shownLength a) run out) e fits
+module _ (answer : SearchAnswer) (run out : List ℕ) (fits : LineFits (shownLength answer) run out) where
+  pub searched-fits : {x : Searched} {k : Known} → answer ≡ Answered x k → LineFits (givenLength x) run out
+  searched-fits e = subst (λ (a : SearchAnswer). LineFits (shownLength a) run out) e fits
 
   pub uses-fits : {part after : List ℕ} {end : ℕ} → Wrote part out 0 after end × (end + usesRoom ≤ lineRoom) → end + usesRoom ≤ length after
   uses-fits w = let z = w .0 .size in let t = fits .room in let u = w .1 in omega arith

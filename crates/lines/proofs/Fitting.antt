@@ -4,9 +4,10 @@ use native.Mathlib.Omega.{arith}
 use mathlib.Core.Path.{_≡_, refl, subst}
 use mathlib.Core.List.{List, _++_}
 use lib.ListN.{length, getD, take, length-append, length-take}
+use Rattle.levels.specs.Lent.{pairCount}
 use Rattle.rules.specs.declared.Known.{Known}
 use Rattle.rules.specs.Weight.{weightOf}
-use Rattle.tables.specs.Table.{tableOf}
+use Rattle.automata.specs.Table.{tableOf}
 use Rattle.models.specs.Model.{Model}
 use Rattle.models.specs.Stored.{modelOf}
 use Rattle.models.specs.Answer as models
@@ -15,16 +16,16 @@ use Rattle.lasting.specs.Endless.{LastingRun}
 use Rattle.passes.specs.declared.inner.Searched.the-variants.{Found, Nothing}
 use Rattle.search.specs.declared.SearchAnswer.{SearchAnswer}
 use Rattle.search.specs.declared.SearchAnswer.the-variants.{Answered, Refused}
-use Rattle.passes.specs.Right.{Answer, found, Right}
+use Rattle.levels.specs.Right.{Answer, found, Right}
 use Rattle.search.specs.Answer.{Slices, Result, answered, SearchRight, refusal, searched, told}
 use Rattle.writing.specs.Decimal.{named}
 use Rattle.writing.specs.Refused.{refusedText}
 use Rattle.lines.specs.Text.{foundWord, pairsWord, colon, noneWord, statesText, foundText, noneText}
-use Rattle.lines.specs.Room.{lineRoom, usesRoom, shownLength, Fits}
+use Rattle.lines.specs.Room.{lineRoom, usesRoom, shownLength, LineFits}
 use Rattle.writing.proofs.Shortness.{named-short, refused-short}
 use Rattle.lines.proofs.States.{states-short}
 
-pub found-room : (long pairs : ℕ) (run : List ℕ) → long < 2 ^ 64 → pairs < 2 ^ 64 → length (statesText run) ≤ 3 * 4096 → length (foundText long run pairs) + usesRoom ≤ lineRoom
+pub found-room : (long pairs : ℕ) (run : List ℕ) → long < 2 ^ 64 → pairs < 2 ^ 64 → length (statesText run) ≤ 3 * pairCount → length (foundText long run pairs) + usesRoom ≤ lineRoom
 unfolding foundText
 found-room long pairs run h k l =
     let a = named-short foundWord long h in
@@ -52,8 +53,8 @@ module _ (rule model : List ℕ) (before after : Slices) (bytes : (i : ℕ) → 
       (cc, states-short M (answer-held model bytes .sound .few) (M .initial) run (right .0 .matches .0 .0 .1))
 
 -- so the text of every answer has room
-pub search-fits : (rule model : List ℕ) (before after : Slices) → ((i : ℕ) → getD model i 0 < 256) → (answer : SearchAnswer) (out : List ℕ) → lineRoom ≤ length out → length (after .run) ≡ 4096
-    → SearchRight rule model before after (told answer (after .run)) → Fits (shownLength answer) (after .run) out
+pub search-fits : (rule model : List ℕ) (before after : Slices) → ((i : ℕ) → getD model i 0 < 256) → (answer : SearchAnswer) (out : List ℕ) → lineRoom ≤ length out → length (after .run) ≡ pairCount
+    → SearchRight rule model before after (told answer (after .run)) → LineFits (shownLength answer) (after .run) out
 unfolding statesText
 search-fits rule model before after bytes (Answered (Found long pairs) k) out l e x =
     let f = found-short rule model before after bytes k long pairs (take long (after .run)) x refl in

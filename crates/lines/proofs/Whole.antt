@@ -3,23 +3,24 @@ use Prim.Native.Nat.{ℕ, _≤_, _<_}
 use mathlib.Core.Path.{_≡_, refl, ap, subst, subst⁻¹, _∙_}
 use mathlib.Core.List.{List}
 use lib.ListN.{length, getD, length-replicate}
-use Rattle.tables.specs.IsTable.{Words}
+use Rattle.levels.specs.Lent.{pairCount}
+use Rattle.automata.specs.IsTable.{Words}
 use Rattle.search.specs.declared.SearchAnswer.{SearchAnswer}
 use Rattle.search.specs.Answer.{Slices, told, SearchRight}
 use Rattle.lines.specs.Text.{textOf}
 use Rattle.lines.specs.Input.{ruleIn, modelIn}
 use Rattle.writing.specs.Wrote.{Wrote}
-use Rattle.lines.specs.Room.{lineRoom, shownLength, Fits}
+use Rattle.lines.specs.Room.{lineRoom, shownLength, LineFits}
 use Rattle.lines.specs.Line.{fresh, LineRight, written}
 use Rattle.lines.proofs.Inputs.{model-bytes}
 use Rattle.lines.proofs.Fitting.{search-fits}
 
-fresh-long : length (fresh .run) ≡ 4096
+fresh-long : length (fresh .run) ≡ pairCount
 unfolding fresh
-fresh-long = length-replicate {A = ℕ} 4096 0
+fresh-long = length-replicate {A = ℕ} pairCount 0
 
 module _ {rule model out : List ℕ} {before after : Slices} (answer : SearchAnswer) (new : before ≡ fresh) (room : lineRoom ≤ length out) (right : SearchRight rule model before after (told answer (after .run))) where
-  pub line-fits : (input : List ℕ) → ((i : ℕ) → getD input i 0 < 256) → model ≡ modelIn input → length (after .run) ≡ length (before .run) → Fits (shownLength answer) (after .run) out
+  pub line-fits : (input : List ℕ) → ((i : ℕ) → getD input i 0 < 256) → model ≡ modelIn input → length (after .run) ≡ length (before .run) → LineFits (shownLength answer) (after .run) out
   line-fits input bytes q e =
       search-fits rule model before after (λ i. subst⁻¹ (λ (s : List ℕ). getD s i 0 < 256) q (model-bytes input bytes i)) answer out room (e ∙ ap (λ (s : Slices). length (s .run)) new ∙ fresh-long) right
 

@@ -3,7 +3,9 @@ use Prim.Native.Nat.{ℕ, _<_, _≤_}
 use mathlib.Core.Path.{_≡_}
 use mathlib.Core.List.{List}
 use lib.ListN.{length, replicate}
-use Rattle.tables.specs.IsTable.{Words}
+use Rattle.automata.specs.Table.{tableEntries}
+use Rattle.levels.specs.Lent.{pairCount}
+use Rattle.automata.specs.IsTable.{Words}
 use Rattle.search.specs.declared.SearchAnswer.{SearchAnswer}
 use Rattle.search.specs.Answer.{Slices, slices, told, SearchRight}
 use Rattle.lines.specs.Text.{textOf}
@@ -13,7 +15,7 @@ use Rattle.lines.specs.Room.{lineRoom}
 
 -- the slices that the search is lent: 4,096 zeros each
 unfoldable pub fresh : Slices
-fresh = slices (replicate 4096 0) (replicate 4096 0) (replicate 4096 0) (replicate 4096 0)
+fresh = slices (replicate tableEntries 0) (replicate pairCount 0) (replicate pairCount 0) (replicate pairCount 0)
 
 -- the line says what the search for the input's rule comes to in the input's model
 pub record LineOf (input line : List ℕ) : Type 0 where

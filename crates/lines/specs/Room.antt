@@ -6,6 +6,7 @@ use Rattle.rules.specs.Named.{propositionCount}
 use Rattle.search.specs.declared.SearchAnswer.{SearchAnswer}
 use Rattle.search.specs.declared.SearchAnswer.the-variants.{Answered, Refused}
 use Rattle.search.specs.Answer.{givenLength}
+use Rattle.levels.specs.Lent.{pairCount}
 use Rattle.lines.specs.Text.{statesText}
 
 -- no line is longer than this many bytes
@@ -22,7 +23,7 @@ abbrev pub usesRoom : ℕ
 usesRoom = 5 + 2 * propositionCount
 
 -- the output is long enough, the run that is shown is there, and a state of it takes no more than a blank and two digits
-pub record Fits (shown : ℕ) (run out : List ℕ) : Type 0 where
+pub record LineFits (shown : ℕ) (run out : List ℕ) : Type 0 where
   pub room : lineRoom ≤ length out
   pub run-there : shown ≤ length run
-  pub run-short : length (statesText (take shown run)) ≤ 3 * 4096
+  pub run-short : length (statesText (take shown run)) ≤ 3 * pairCount

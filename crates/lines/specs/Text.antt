@@ -5,7 +5,7 @@ use mathlib.Core.List.{List, [], _∷_, _++_}
 use lib.Dec.{eqb}
 use Rattle.bits.specs.Word.{bit}
 use Rattle.rules.specs.Named.{propositionCount}
-use Rattle.passes.specs.Right.{Answer, found, nothing}
+use Rattle.levels.specs.Right.{Answer, found, nothing}
 use Rattle.search.specs.Answer.{Result, answered, refused}
 use Rattle.writing.specs.Decimal.{decimal, named}
 use Rattle.writing.specs.Refused.{refusedText}

@@ -7,7 +7,7 @@ ghost use Rattle.search.specs.Answer.{givenLength, told};
 ghost use Rattle.passes.specs.Told.{answerOf};
 ghost use Rattle.lines.specs.Text.{colon, entryText, statesText, foundText, noneText, searchedText, memberText, membersText, setText, usesText, textOf};
 ghost use Rattle.writing.specs.Wrote.{Wrote};
-ghost use Rattle.lines.specs.Room.{lineRoom, usesRoom, shownLength, Fits};
+ghost use Rattle.lines.specs.Room.{lineRoom, usesRoom, shownLength, LineFits};
 use passes::inner::Searched;
 use search::SearchAnswer;
 use writing::put_byte;
@@ -82,7 +82,7 @@ fn put_none(out: &mut [u8], pairs: usize) -> usize
 
 // What was found, with room after it for what the rule names.
 fn put_searched(out: &mut [u8], searched: Searched, run: &[u8]) -> usize
-    requires { ⌜ Fits (givenLength searched) (now run) (now out) ⌝ }
+    requires { ⌜ LineFits (givenLength searched) (now run) (now out) ⌝ }
     ensures { λ r. ⌜ Wrote (searchedText (givenLength searched) (answerOf searched (now (run .entry)))) (now (out .entry)) 0 (now (out .exit)) r × (r + usesRoom ≤ lineRoom) ⌝ }
 {
     match searched {
@@ -137,7 +137,7 @@ fn put_uses(out: &mut [u8], at: usize, uses: u64) -> usize
 }
 
 pub fn put_answer(out: &mut [u8], answer: SearchAnswer, run: &[u8]) -> usize
-    requires { ⌜ Fits (shownLength answer) (now run) (now out) ⌝ }
+    requires { ⌜ LineFits (shownLength answer) (now run) (now out) ⌝ }
     ensures { λ r. ⌜ Wrote (textOf (told answer (now (run .entry)))) (now (out .entry)) 0 (now (out .exit)) r ⌝ }
 {
     match answer {

@@ -7,7 +7,7 @@ ghost use Rattle.lines.specs.Input.{ruleIn, modelIn};
 ghost use Rattle.lines.specs.Room.{lineRoom};
 ghost use Rattle.lines.specs.Line.{fresh, LineRight};
 use crate::answers::put_answer;
-use tables::TABLE_ENTRIES;
+use automata::TABLE_ENTRIES;
 use writing::front;
 use writing::past;
 

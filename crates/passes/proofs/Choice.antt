@@ -7,13 +7,13 @@ use mathlib.Core.List.{List, [], _∷_, _++_}
 use native.Mathlib.Omega.{arith}
 use lib.Dec.{T}
 use lib.ListN.{length, length-append}
-use Rattle.tables.specs.Table.{Table, Goes}
+use Rattle.automata.specs.Table.{Table, Goes}
 use Rattle.models.specs.Model.{Model, Walk, NonEmpty, last, spelled}
-use Rattle.passes.specs.inner.Passes.{Way, Left, Useful}
-use Rattle.passes.proofs.Way.{way-of-run, goes-append, last-append}
-use Rattle.passes.proofs.Level.{Fair, ends}
-use Rattle.passes.proofs.Useful.{Nearest, placed}
-use Rattle.passes.proofs.Pick.{Chosen, Can, walk-more}
+use Rattle.levels.specs.inner.Passes.{Way, Left, Useful}
+use Rattle.levels.proofs.Way.{way-of-run, goes-append, last-append}
+use Rattle.levels.proofs.Level.{Fair, ends}
+use Rattle.levels.proofs.Useful.{Nearest, placed}
+use Rattle.levels.proofs.Pick.{Chosen, Can, walk-more}
 
 full : (r : List ℕ) (t : ℕ) → NonEmpty (r ++ t ∷ [])
 full [] t = tt

@@ -9,14 +9,14 @@ use Rattle.bits.specs.Word.{bit}
 use Rattle.bits.specs.Sets.{Members, Over, In}
 use Rattle.bits.proofs.Members.{members-same}
 use Rattle.bits.proofs.Resting.{in-word}
-use Rattle.tables.specs.Table.{tableOf, tableStates}
-use Rattle.tables.proofs.promise.TableOf.{edge-out}
+use Rattle.automata.specs.Table.{tableOf, tableStates}
+use Rattle.automata.proofs.TableOf.{edge-out}
 use Rattle.steps.specs.Rows.{Rowed}
-use Rattle.passes.specs.Lent.{LentTable, LentLetters}
-use Rattle.passes.specs.inner.Passes.{Used, Under, view, Onward, CanNext}
+use Rattle.levels.specs.Lent.{LentTable, LentLetters}
+use Rattle.levels.specs.inner.Passes.{Used, Under, view, Onward, CanNext}
 use Rattle.passes.specs.inner.Uses.{Holds, flat, usefulAt}
 use Rattle.passes.proofs.Keeping.{flat-some}
-use Rattle.passes.proofs.UsedLetters.{used-by}
+use Rattle.levels.proofs.UsedLetters.{used-by}
 
 -- what the code builds
 pub holds-members : {reached word r : ℕ} (rows letters m useful : List ℕ) (held j t : ℕ) → Members reached (λ p. Over (In held) (λ q. T (bit (getD rows (tableStates * getD letters t 0 + q) 0) p)))

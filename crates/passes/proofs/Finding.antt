@@ -6,18 +6,18 @@ use mathlib.Core.List.{List}
 use native.Mathlib.Omega.{arith}
 use native.Mathlib.Decide.{decLt}
 use lib.ListN.{length, getD, take}
-use Rattle.tables.specs.Table.{Table}
+use Rattle.automata.specs.Table.{Table}
 use Rattle.tables.specs.Beyond.{Beyond}
 use Rattle.tables.proofs.promise.Beyonds.{beyond-then, beyond-more}
-use Rattle.tables.proofs.promise.TableOf.{final-out}
+use Rattle.automata.proofs.TableOf.{final-out}
 use Rattle.models.specs.Model.{Model, Run}
 use Rattle.passes.specs.declared.inner.Searched.{Searched}
 use Rattle.passes.specs.declared.inner.Searched.the-variants.{Found, Nothing}
-use Rattle.passes.specs.Lent.{Cleared, pairCount}
+use Rattle.levels.specs.Lent.{Cleared, pairCount}
 use Rattle.passes.specs.Told.{RunKept, Answers}
-use Rattle.passes.specs.inner.Passes.{view, Ended, Useful, Pickable, Picked}
-use Rattle.passes.proofs.SearchInput.{SearchInput, modelFor, tableFor, fair}
-use Rattle.passes.proofs.Answered.{left-at-start, right-nothing, right-found, bounded-nothing, bounded-found}
+use Rattle.levels.specs.inner.Passes.{view, Ended, Useful, Pickable, Picked}
+use Rattle.levels.proofs.SearchInput.{SearchInput, modelFor, tableFor, fair}
+use Rattle.levels.proofs.Answered.{left-at-start, right-nothing, right-found, bounded-nothing, bounded-found}
 
 module _ (G : SearchInput) where
   abbrev A : Table

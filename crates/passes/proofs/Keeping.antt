@@ -17,19 +17,19 @@ use Rattle.bits.proofs.Laws.{bit-zero, bit-insert}
 use Rattle.bits.proofs.Sayings.{says-in, says-map}
 use Rattle.bits.proofs.Truths.{or-T, T-true, false-no}
 use Rattle.bits.proofs.Members.{add-old, add-new}
-use Rattle.tables.specs.Table.{Table, tableStates}
-use Rattle.tables.proofs.promise.TableOf.{final-out, final-in}
+use Rattle.automata.specs.Table.{Table, tableStates}
+use Rattle.automata.proofs.TableOf.{final-out, final-in}
 use Rattle.steps.specs.Rows.{Rowed}
 use Rattle.steps.proofs.Rowing.{same-place}
 use Rattle.models.specs.Model.{Model, modelStates}
-use Rattle.passes.specs.Lent.{pairCount}
-use Rattle.passes.specs.inner.Passes.{Used, view, Way, onto, Marked, Left, Useful, usefulSets, pairAt}
-use Rattle.passes.specs.inner.Waves.{Queued}
+use Rattle.levels.specs.Lent.{pairCount}
+use Rattle.levels.specs.inner.Passes.{Used, view, Way, onto, Marked, Left, Useful, usefulSets, pairAt}
+use Rattle.levels.specs.inner.Waves.{Queued}
 use Rattle.passes.specs.inner.Uses.{Meets, Keeps, last, early, Settles, build, flat, usefulAt}
-use Rattle.passes.proofs.Level.{ends}
-use Rattle.passes.proofs.SearchInput.{SearchInput, modelFor, tableFor, labelsFor, fair}
-use Rattle.passes.proofs.Useful.{Nearest, nearest, placed}
-use Rattle.passes.proofs.UsedLetters.{used-by}
+use Rattle.levels.proofs.Level.{ends}
+use Rattle.levels.proofs.SearchInput.{SearchInput, modelFor, tableFor, labelsFor, fair}
+use Rattle.levels.proofs.Useful.{Nearest, nearest, placed}
+use Rattle.levels.proofs.UsedLetters.{used-by}
 
 -- ---- the useful pairs as marks
 

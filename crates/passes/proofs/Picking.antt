@@ -12,13 +12,13 @@ use lib.Seq.{take-suc-set, length-take-le}
 use Rattle.bits.specs.Word.{bit, Lowest}
 use Rattle.bits.specs.Sets.{Members}
 use Rattle.bits.proofs.Members.{members-first, not-zero, lowest-is, lowest-least}
-use Rattle.tables.specs.Table.{Table}
-use Rattle.tables.proofs.promise.TableOf.{edge-out}
+use Rattle.automata.specs.Table.{Table}
+use Rattle.automata.proofs.TableOf.{edge-out}
 use Rattle.models.specs.Model.{Model}
-use Rattle.passes.specs.inner.Passes.{Under, view, Left, Pickable, Onward, CanNext, Picked}
-use Rattle.passes.proofs.SearchInput.{SearchInput, modelFor, tableFor, labelsFor, fair}
-use Rattle.passes.proofs.Useful.{Nearest, nearest}
-use Rattle.passes.proofs.Pick.{Chosen, Can, Held, begin, can-some, picked, done}
+use Rattle.levels.specs.inner.Passes.{Under, view, Left, Pickable, Onward, CanNext, Picked}
+use Rattle.levels.proofs.SearchInput.{SearchInput, modelFor, tableFor, labelsFor, fair}
+use Rattle.levels.proofs.Useful.{Nearest, nearest}
+use Rattle.levels.proofs.Pick.{Chosen, Can, Held, begin, can-some, picked, done}
 use Rattle.passes.proofs.Choice.{tested, can-of, of-can}
 
 chosen-same : {M : Model} {A : Table} {k d : ℕ} {r : List ℕ} {ok : ℕ → Bool} {Q : ℕ → Type 0} (Q′ : ℕ → Type 0) → Chosen M A k d r ok Q

@@ -6,17 +6,17 @@ use mathlib.Core.List.{List, []}
 use native.Mathlib.Omega.{arith}
 use lib.ListN.{length, getD, take}
 use lib.Seq.{getD-take, length-take-le}
-use Rattle.rules.specs.Definition1.{Rule}
-use Rattle.tables.specs.Table.{Table}
-use Rattle.tables.specs.Promise.{Serves}
+use Rattle.definitions.specs.Definition1.{Rule}
+use Rattle.automata.specs.Table.{Table}
+use Rattle.automata.specs.Promise.{Serves}
 use Rattle.models.specs.Model.{Model}
 use Rattle.tables.specs.Beyond.{Beyond}
 use Rattle.tables.proofs.promise.Beyonds.{beyond-once}
 use Rattle.passes.specs.declared.inner.Searched.{Searched}
 use Rattle.passes.specs.declared.inner.Searched.the-variants.{Found, Nothing}
-use Rattle.passes.specs.Lent.{Cleared}
+use Rattle.levels.specs.Lent.{pairCount, Cleared}
 use Rattle.passes.specs.Told.{answerOf, RunKept, SearchedTable}
-use Rattle.passes.specs.Right.{RunKind, Before, here, there, Count, none, counted, passed, Reached, Shown, Answer, found, nothing, Right}
+use Rattle.levels.specs.Right.{RunKind, Before, here, there, Count, none, counted, passed, Reached, Shown, Answer, found, nothing, Right}
 
 pub before-not-both : {r u : List ℕ} → Before r u → Before u r → ⊥
 before-not-both (here l) (here m) = omega arith
@@ -89,4 +89,4 @@ module _ (Runs : RunKind) (M : Model) (A : Table) (f : Rule) (serves : Serves A 
   one-search a b x y =
       let e : answerOf a run₁ ≡ answerOf b run₂ = one-answer Runs M A f (answerOf a run₁) (answerOf b run₂) (x .answers .right f serves) (y .answers .right f serves) in
       let r = answers-same a b run run₁ run₂ e (x .answers .run-kept) (y .answers .run-kept) in
-      (r .0, cleared-same 4096 marks marks₁ marks₂ (x .marks-clear) (y .marks-clear), cleared-same 4096 useful useful₁ useful₂ (x .useful-clear) (y .useful-clear), r .1)
+      (r .0, cleared-same pairCount marks marks₁ marks₂ (x .marks-clear) (y .marks-clear), cleared-same pairCount useful useful₁ useful₂ (x .useful-clear) (y .useful-clear), r .1)

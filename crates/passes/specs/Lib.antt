@@ -1,4 +1,2 @@
-pub mod Right
-pub mod Lent
 pub mod Told
 pub mod inner

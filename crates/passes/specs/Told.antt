@@ -3,15 +3,15 @@ use Prim.Native.Nat.{ℕ, _≤_}
 use mathlib.Core.Path.{_≡_}
 use mathlib.Core.List.{List}
 use lib.ListN.{length, take}
-use Rattle.rules.specs.Definition1.{Rule}
-use Rattle.tables.specs.Table.{Table}
-use Rattle.tables.specs.Promise.{Serves}
+use Rattle.definitions.specs.Definition1.{Rule}
+use Rattle.automata.specs.Table.{Table}
+use Rattle.automata.specs.Promise.{Serves}
 use Rattle.models.specs.Model.{Model}
 use Rattle.tables.specs.Beyond.{Beyond}
 use Rattle.passes.specs.declared.inner.Searched.{Searched}
 use Rattle.passes.specs.declared.inner.Searched.the-variants.{Found, Nothing}
-use Rattle.passes.specs.Right.{RunKind, Answer, found, nothing, Right, Bounded}
-use Rattle.passes.specs.Lent.{Cleared}
+use Rattle.levels.specs.Right.{RunKind, Answer, found, nothing, Right, Bounded}
+use Rattle.levels.specs.Lent.{pairCount, Cleared}
 
 -- the answer that is given back: the run is what the output begins with
 abbrev pub answerOf : Searched → List ℕ → Answer
@@ -32,5 +32,5 @@ pub record Answers (Runs : RunKind) (M : Model) (A : Table) (answer : Searched) 
 -- and the working slices are clear
 pub record SearchedTable (Runs : RunKind) (M : Model) (A : Table) (answer : Searched) (marks marks′ useful useful′ run run′ : List ℕ) : Type 0 where
   pub answers : Answers Runs M A answer run run′
-  pub marks-clear : Cleared 4096 marks marks′
-  pub useful-clear : Cleared 4096 useful useful′
+  pub marks-clear : Cleared pairCount marks marks′
+  pub useful-clear : Cleared pairCount useful useful′

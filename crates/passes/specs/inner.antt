@@ -1,3 +1,1 @@
-pub mod Passes
-pub mod Waves
 pub mod Uses

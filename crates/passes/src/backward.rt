@@ -8,17 +8,17 @@ ghost use lib.ListN.{length};
 ghost use Rattle.bits.specs.Word.{bit};
 ghost use Rattle.bits.specs.Says.{Says};
 ghost use Rattle.bits.specs.Sets.{Over, In};
-ghost use Rattle.tables.specs.Table.{tableStates, tableEntries};
+ghost use Rattle.automata.specs.Table.{tableStates, tableEntries};
 ghost use Rattle.models.specs.Model.{modelStates};
-ghost use Rattle.passes.specs.Lent.{modelIn, tableIn, LentLetters, pairCount};
-ghost use Rattle.passes.specs.inner.Passes.{view, Marked, Useful, PassInput, Workspace, usefulSets, NoSets, HasLetter};
-ghost use Rattle.passes.specs.inner.Waves.{Queued};
+ghost use Rattle.levels.specs.Lent.{modelIn, tableIn, LentLetters, pairCount};
+ghost use Rattle.levels.specs.inner.Passes.{view, Marked, Useful, PassInput, Workspace, usefulSets, NoSets, HasLetter};
+ghost use Rattle.levels.specs.inner.Waves.{Queued};
 ghost use Rattle.passes.specs.inner.Uses.{Meets, Keeps, Settles, flat};
-use crate::shape::ForwardEnd;
-use crate::shape::MODEL_STATES;
-use crate::shape::Pair;
-use crate::shape::Sizes;
-use tables::STATES;
+use automata::STATES;
+use levels::shape::ForwardEnd;
+use levels::shape::MODEL_STATES;
+use levels::shape::Pair;
+use levels::shape::Sizes;
 
 // Whether letter and rows lead from q to a member of the set of t.
 fn meets(letters: &[u8], rows: &[u64], useful: &[u64], base: usize, q: usize, t: usize) -> bool

@@ -6,16 +6,16 @@ ghost use lib.ListN.{length, take};
 ghost use Rattle.bits.specs.Word.{bit};
 ghost use Rattle.bits.specs.Sets.{Members};
 ghost use Rattle.tables.specs.Beyond.{Beyond};
-ghost use Rattle.tables.specs.Table.{tableEntries};
-ghost use Rattle.passes.specs.Lent.{modelIn, tableIn, pairCount};
-ghost use Rattle.passes.specs.inner.Passes.{Pickable, Picked, PassInput, usefulSets, HasLetter};
+ghost use Rattle.automata.specs.Table.{tableEntries};
+ghost use Rattle.levels.specs.Lent.{modelIn, tableIn, pairCount};
+ghost use Rattle.levels.specs.inner.Passes.{Pickable, Picked, PassInput, usefulSets, HasLetter};
 ghost use Rattle.passes.specs.inner.Uses.{Holds, flat};
-use crate::marks::filter;
-use crate::shape::BEGIN;
-use crate::shape::MODEL_STATES;
-use crate::shape::Sizes;
+use automata::STATES;
+use levels::marks::filter;
+use levels::shape::BEGIN;
+use levels::shape::MODEL_STATES;
+use levels::shape::Sizes;
 use steps::rows::union;
-use tables::STATES;
 
 // The table states that are held after state t on the level: those that `held` leads to and that lie on a shortest match.
 fn onward(

@@ -2,21 +2,21 @@
 ghost use Prim.Native.Nat.{_*_, _≤_};
 ghost use lib.ListN.{length};
 ghost use Rattle.tables.specs.Beyond.{Beyond};
-ghost use Rattle.tables.specs.Table.{tableStates};
+ghost use Rattle.automata.specs.Table.{tableStates};
 ghost use Rattle.models.specs.Model.{Run};
-ghost use Rattle.passes.specs.Lent.{modelIn, tableIn, LentTable, LentLetters, pairCount};
+ghost use Rattle.levels.specs.Lent.{modelIn, tableIn, LentTable, LentLetters, pairCount};
 ghost use Rattle.passes.specs.Told.{Answers, SearchedTable};
-ghost use Rattle.passes.specs.inner.Passes.{PassInput, Workspace, usefulSets, Unmarked, NoSets};
+ghost use Rattle.levels.specs.inner.Passes.{PassInput, Workspace, usefulSets, Unmarked, NoSets};
 use crate::backward::backward;
 use crate::choose::pick;
-use crate::forward::forward;
-use crate::marks::clear;
-use crate::rows::model_rows;
-use crate::shape::PAIRS;
-use crate::shape::Sizes;
-use crate::shape::USEFUL_SETS;
-use tables::STATES;
-use tables::TABLE_ENTRIES;
+use automata::STATES;
+use automata::TABLE_ENTRIES;
+use levels::forward::forward;
+use levels::marks::clear;
+use levels::rows::model_rows;
+use levels::shape::PAIRS;
+use levels::shape::Sizes;
+use levels::shape::USEFUL_SETS;
 
 // What a search answers.
 pub enum Searched {

@@ -10,10 +10,10 @@ use lib.Dec.{leb, ltb}
 use lib.ListN.{length}
 use borrow.Author.Tests.{le-ltb, le-leb, leb-true, ltb-false}
 use Rattle.rules.specs.declared.Known.{Known}
-use Rattle.rules.specs.Definition1.{Rule}
+use Rattle.definitions.specs.Definition1.{Rule}
 use Rattle.rules.specs.Weight.{weightOf, weightLimit}
 use Rattle.rules.specs.Reading.{Outcome, good, fault}
-use Rattle.rules.specs.Encoding.{spell, Small}
+use Rattle.definitions.specs.Encoding.{spell, Small}
 use Rattle.rules.specs.Places.{RuleAt, GoodRule}
 use Rattle.rules.specs.Answer.{longestRule, accepted, refused, parse, knownOf, weighed, answer, AcceptedAs}
 use Rattle.rules.proofs.Encode.{read-is-spelt, spelt-is-read}

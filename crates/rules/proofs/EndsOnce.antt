@@ -6,12 +6,12 @@ use mathlib.Core.Bool.{Bool, true, false, cond}
 use mathlib.Core.List.{List, [], _∷_}
 use lib.Dec.{leb}
 use lib.ListN.{drop}
-use Rattle.rules.specs.declared.Refusal.{Refusal}
+use Rattle.definitions.specs.declared.Refusal.{Refusal}
 use Rattle.rules.specs.declared.ends.Read.{Read}
 use Rattle.rules.specs.declared.ends.Read.the-variants.{Ends, Refused}
-use Rattle.rules.specs.Definition1.{Formula, Rule, empty}
-use Rattle.rules.specs.Definition2.{lastProposition}
-use Rattle.rules.specs.Refusals.{number, place}
+use Rattle.definitions.specs.Definition1.{Formula, Rule, empty}
+use Rattle.definitions.specs.Definition2.{lastProposition}
+use Rattle.definitions.specs.Refusals.{number, place}
 use Rattle.rules.specs.Reading.{fault, Need, rule, formula, body, scan}
 use Rattle.rules.specs.Places.{FormulaAt, RuleAt}
 use Rattle.rules.specs.Walks.{shown, Fails, FormulaRead, RuleRead}

@@ -6,13 +6,13 @@ use mathlib.Core.List.{List, []}
 use lib.ListN.{length, drop-of-length-le}
 use lib.Seq.{drop-cons}
 use borrow.Author.Tests.{lt-ltb, le-ltb, le-leb, lt-leb}
-use Rattle.rules.specs.declared.Refusal.{Refusal}
+use Rattle.definitions.specs.declared.Refusal.{Refusal}
 use Rattle.rules.specs.declared.ends.Read.the-variants.{Ends, Refused}
 use Rattle.rules.specs.declared.weights.Weighed.{Weighed}
-use Rattle.rules.specs.Definition1.{Rule}
+use Rattle.definitions.specs.Definition1.{Rule}
 use Rattle.rules.specs.Weight.{weightOf, weightLimit, countedTo}
 use Rattle.rules.specs.Named.{usesOf}
-use Rattle.rules.specs.Refusals.{number, place}
+use Rattle.definitions.specs.Refusals.{number, place}
 use Rattle.rules.specs.Reading.{Outcome, good, fault, scan}
 use Rattle.rules.specs.Places.{RuleAt}
 use Rattle.rules.specs.Walks.{RuleRead, shown, WeighedAs}

@@ -5,7 +5,7 @@ use mathlib.Core.Path.{_≡_, refl}
 use mathlib.Core.Bool.{Bool, true, false, _&&_}
 use lib.Dec.{leb}
 use borrow.Author.Tests.{le-leb, leb-true}
-use Rattle.rules.specs.Encoding.{largestCount, CountsFit, countsFit}
+use Rattle.definitions.specs.Encoding.{largestCount, CountsFit, countsFit}
 
 module _ (i j : ℕ) where
   pub fit-true : CountsFit i j → countsFit i j ≡ true

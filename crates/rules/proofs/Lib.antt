@@ -5,8 +5,6 @@ pub mod PlacesOnce
 pub mod Walks
 pub mod Naming
 pub mod Weighing
-pub mod Evaluating
-pub mod Labelling
 pub mod Finish
 pub mod Encode
 pub mod Stands
@@ -14,8 +12,4 @@ pub mod Ended
 pub mod Once
 pub mod EndsOnce
 pub mod Accepting
-pub mod Maps
-pub mod PartsInARow
-pub mod Deciding
-pub mod Held
 pub mod Faulting

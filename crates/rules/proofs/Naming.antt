@@ -10,15 +10,15 @@ use lib.ListN.{getD}
 use lib.Pow.{pow-pos, pow-lt}
 use Rattle.bits.specs.Word.{word, insert}
 use Rattle.bits.proofs.Laws.{word-or, word-no-bit, word-unique, bit-insert, bit-zero}
-use Rattle.rules.specs.declared.kinds.Junction.{Junction}
-use Rattle.rules.specs.declared.kinds.Pair.{Pair}
-use Rattle.rules.specs.declared.kinds.Repeat.{Repeat}
-use Rattle.rules.specs.declared.kinds.FormulaKind.the-variants.{Proposition, Truth, Falsity, Not, Join}
-use Rattle.rules.specs.declared.kinds.Kind.the-variants.{OfFormula}
+use Rattle.definitions.specs.declared.kinds.Junction.{Junction}
+use Rattle.definitions.specs.declared.kinds.Pair.{Pair}
+use Rattle.definitions.specs.declared.kinds.Repeat.{Repeat}
+use Rattle.definitions.specs.declared.kinds.FormulaKind.the-variants.{Proposition, Truth, Falsity, Not, Join}
+use Rattle.definitions.specs.declared.kinds.Kind.the-variants.{OfFormula}
 use Rattle.rules.specs.declared.names.Names.{Names}
-use Rattle.rules.specs.Definition1.{Formula, prop, Rule, letter, empty, two, again, counted, occurs}
-use Rattle.rules.specs.Definition2.{lastProposition}
-use Rattle.rules.specs.Kinds.{kindOf}
+use Rattle.definitions.specs.Definition1.{Formula, prop, Rule, letter, empty, two, again, counted, occurs}
+use Rattle.definitions.specs.Definition2.{lastProposition}
+use Rattle.definitions.specs.Kinds.{kindOf}
 use Rattle.rules.specs.Named.{propositionCount, formulaNames, ruleNames, usesOf}
 use Rattle.rules.specs.Walks.{NamesAs}
 use Rattle.rules.proofs.PlacesOnce.{formula-of}

@@ -9,11 +9,11 @@ use mathlib.Core.List.{List, _∷_}
 use lib.ListN.{length, getD, drop, drop-of-length-le}
 use lib.Seq.{drop-cons}
 use borrow.Author.Tests.{le-leb, lt-leb}
-use Rattle.rules.specs.declared.kinds.Kind.{Kind}
-use Rattle.rules.specs.declared.Refusal.the-variants.{Ended, NoProposition, BadCounts}
-use Rattle.rules.specs.Definition1.{Formula, prop, neg, join, Rule, letter, two, again, counted, occurs}
+use Rattle.definitions.specs.declared.kinds.Kind.{Kind}
+use Rattle.definitions.specs.declared.Refusal.the-variants.{Ended, NoProposition, BadCounts}
+use Rattle.definitions.specs.Definition1.{Formula, prop, neg, join, Rule, letter, two, again, counted, occurs}
 use Rattle.rules.specs.Reading.{Need, rule, formula, body, counts, Rest, scan, takeRule, takeFormula}
-use Rattle.rules.specs.Encoding.{CountsFit, countsFit}
+use Rattle.definitions.specs.Encoding.{CountsFit, countsFit}
 use Rattle.rules.specs.Places.{HasCounts, Here, FormulaAt, a-prop, a-yea, a-nay, a-neg, a-join, RuleAt, a-letter, a-empty, a-two, a-again, a-counted, an-occurs}
 use Rattle.rules.specs.Walks.{Fails}
 use Rattle.rules.proofs.Fitting.{fit-true}

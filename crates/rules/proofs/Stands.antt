@@ -7,12 +7,12 @@ use mathlib.Core.List.{List, [], _∷_, _++_, append-assoc, append-nil}
 use lib.ListN.{length, getD, drop, length-drop, drop-of-length-le}
 use lib.Seq.{drop-cons}
 use native.Mathlib.Decide.{decLt}
-use Rattle.rules.specs.declared.kinds.Kind.{Kind}
-use Rattle.rules.specs.Definition1.{Formula, prop, yea, nay, neg, join, Rule, letter, empty, two, again, counted, occurs}
-use Rattle.rules.specs.Kinds.{kindOf}
+use Rattle.definitions.specs.declared.kinds.Kind.{Kind}
+use Rattle.definitions.specs.Definition1.{Formula, prop, yea, nay, neg, join, Rule, letter, empty, two, again, counted, occurs}
+use Rattle.definitions.specs.Kinds.{kindOf}
 use Rattle.rules.specs.Reading.{good}
 use Rattle.rules.specs.Places.{HasCounts, Here, FormulaAt, a-prop, a-yea, a-nay, a-neg, a-join, RuleAt, a-letter, a-empty, a-two, a-again, a-counted, an-occurs}
-use Rattle.rules.specs.Encoding.{spellF, spell, CountsFit, SmallF, Small}
+use Rattle.definitions.specs.Encoding.{spellF, spell, CountsFit, SmallF, Small}
 use Rattle.rules.specs.Answer.{parse}
 use Rattle.rules.proofs.Scan.{rule-ends}
 use Rattle.rules.proofs.Encode.{junction-kind, pair-kind, repeat-kind, read-is-spelt}

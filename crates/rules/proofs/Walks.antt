@@ -4,20 +4,20 @@ use native.Mathlib.Omega.{arith}
 use mathlib.Core.Path.{_≡_, refl}
 use mathlib.Core.List.{List}
 use lib.ListN.{length, getD}
-use Rattle.rules.specs.declared.kinds.FormulaKind.{FormulaKind}
-use Rattle.rules.specs.declared.kinds.FormulaKind.the-variants.{Proposition, Not, Join}
-use Rattle.rules.specs.declared.kinds.Junction.{Junction}
-use Rattle.rules.specs.declared.kinds.RuleKind.{RuleKind}
-use Rattle.rules.specs.declared.kinds.Pair.{Pair}
-use Rattle.rules.specs.declared.kinds.Repeat.{Repeat}
-use Rattle.rules.specs.declared.kinds.RuleKind.the-variants.{Letter, Two, Again, Counted, Occurs}
-use Rattle.rules.specs.declared.kinds.Kind.{Kind}
-use Rattle.rules.specs.declared.kinds.Kind.the-variants.{OfFormula, OfRule, Unknown}
-use Rattle.rules.specs.declared.counts.Counts.{Counts}
-use Rattle.rules.specs.Definition1.{Rule}
-use Rattle.rules.specs.Kinds.{kindOf}
-use Rattle.rules.specs.Encoding.{CountsFit}
-use Rattle.rules.specs.Walks.{CountsAs}
+use Rattle.definitions.specs.declared.kinds.FormulaKind.{FormulaKind}
+use Rattle.definitions.specs.declared.kinds.FormulaKind.the-variants.{Proposition, Not, Join}
+use Rattle.definitions.specs.declared.kinds.Junction.{Junction}
+use Rattle.definitions.specs.declared.kinds.RuleKind.{RuleKind}
+use Rattle.definitions.specs.declared.kinds.Pair.{Pair}
+use Rattle.definitions.specs.declared.kinds.Repeat.{Repeat}
+use Rattle.definitions.specs.declared.kinds.RuleKind.the-variants.{Letter, Two, Again, Counted, Occurs}
+use Rattle.definitions.specs.declared.kinds.Kind.{Kind}
+use Rattle.definitions.specs.declared.kinds.Kind.the-variants.{OfFormula, OfRule, Unknown}
+use Rattle.definitions.specs.declared.counts.Counts.{Counts}
+use Rattle.definitions.specs.Definition1.{Rule}
+use Rattle.definitions.specs.Kinds.{kindOf}
+use Rattle.definitions.specs.Encoding.{CountsFit}
+use Rattle.definitions.specs.Encoding.{CountsAs}
 use Rattle.rules.specs.Places.{HasCounts, RuleAt, GoodFormula, GoodRule, FormulaEnds}
 use Rattle.rules.proofs.Scan.{rule-ends, formula-ends}
 use Rattle.rules.proofs.PlacesOnce.{rule-of, rule-inside, formula-of, formula-inside}

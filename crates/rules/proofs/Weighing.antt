@@ -8,19 +8,20 @@ use mathlib.Core.Path.{_≡_, sym, ap, _∙_}
 use mathlib.Core.List.{List}
 use lib.Bits.{bitOr}
 use lib.ListN.{getD}
-use Rattle.rules.specs.declared.kinds.Pair.{Pair}
-use Rattle.rules.specs.declared.kinds.Pair.the-variants.{Then, Overlap, Either, Within, Both}
-use Rattle.rules.specs.declared.kinds.Repeat.{Repeat}
-use Rattle.rules.specs.declared.kinds.RuleKind.the-variants.{Letter, Empty, Two, Again, Counted, Occurs}
-use Rattle.rules.specs.declared.kinds.Kind.the-variants.{OfRule}
-use Rattle.rules.specs.declared.counts.Counts.{Counts}
+use Rattle.definitions.specs.declared.kinds.Pair.{Pair}
+use Rattle.definitions.specs.declared.kinds.Pair.the-variants.{Then, Overlap, Either, Within, Both}
+use Rattle.definitions.specs.declared.kinds.Repeat.{Repeat}
+use Rattle.definitions.specs.declared.kinds.RuleKind.the-variants.{Letter, Empty, Two, Again, Counted, Occurs}
+use Rattle.definitions.specs.declared.kinds.Kind.the-variants.{OfRule}
+use Rattle.definitions.specs.declared.counts.Counts.{Counts}
 use Rattle.rules.specs.declared.names.Names.{Names}
 use Rattle.rules.specs.declared.weights.Weighed.{Weighed}
-use Rattle.rules.specs.Definition1.{Rule, letter, empty, two, again, counted, occurs}
-use Rattle.rules.specs.Kinds.{kindOf}
+use Rattle.definitions.specs.Definition1.{Rule, letter, empty, two, again, counted, occurs}
+use Rattle.definitions.specs.Kinds.{kindOf}
 use Rattle.rules.specs.Weight.{pairWeight, rowWeight, weightOf, countedTo}
 use Rattle.rules.specs.Named.{usesOf}
-use Rattle.rules.specs.Walks.{CountsAs, NamesAs, WeighedAs}
+use Rattle.rules.specs.Walks.{NamesAs, WeighedAs}
+use Rattle.definitions.specs.Encoding.{CountsAs}
 use Rattle.rules.proofs.PlacesOnce.{rule-of}
 use Rattle.rules.proofs.Naming.{letter-uses, empty-uses, two-uses, again-uses, counted-uses, occurs-uses}
 

@@ -8,10 +8,10 @@ use lib.ListN.{length}
 use Rattle.rules.specs.declared.Known.{Known}
 use Rattle.rules.specs.declared.RuleAnswer.{RuleAnswer}
 use Rattle.rules.specs.declared.RuleAnswer.the-variants.{Accepted, Refused}
-use Rattle.rules.specs.Definition1.{Rule}
+use Rattle.definitions.specs.Definition1.{Rule}
 use Rattle.rules.specs.Weight.{weightOf, weightLimit}
 use Rattle.rules.specs.Named.{usesOf}
-use Rattle.rules.specs.Refusals.{number, place}
+use Rattle.definitions.specs.Refusals.{number, place}
 use Rattle.rules.specs.Reading.{Outcome, good, fault, rule, scan}
 
 -- a longer rule is refused before it is read

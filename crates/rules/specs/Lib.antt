@@ -1,14 +1,7 @@
-pub mod Definition1
-pub mod Definition2
-pub mod Kinds
 pub mod Weight
 pub mod Named
-pub mod Refusals
-pub mod Numbers
 pub mod Reading
 pub mod Places
-pub mod Encoding
 pub mod Walks
 pub mod Answer
-pub mod Sequences
 pub mod Faults

@@ -3,8 +3,8 @@ use Prim.Native.Nat.{ℕ, _+_}
 use mathlib.Core.Bool.{Bool, false, _||_}
 use lib.Dec.{eqb}
 use Rattle.bits.specs.Word.{word}
-use Rattle.rules.specs.Definition1.{Formula, prop, yea, nay, neg, join, Rule, letter, empty, two, again, counted, occurs}
-use Rattle.rules.specs.Definition2.{lastProposition}
+use Rattle.definitions.specs.Definition1.{Formula, prop, yea, nay, neg, join, Rule, letter, empty, two, again, counted, occurs}
+use Rattle.definitions.specs.Definition2.{lastProposition}
 
 abbrev pub propositionCount : ℕ
 propositionCount = lastProposition + 1

@@ -4,17 +4,17 @@ use Prim.Native.Nat.{ℕ, _+_, _<_, _≤_}
 use mathlib.Core.Path.{_≡_}
 use mathlib.Core.List.{List}
 use lib.ListN.{length, getD}
-use Rattle.rules.specs.declared.kinds.Junction.{Junction}
-use Rattle.rules.specs.declared.kinds.FormulaKind.the-variants.{Proposition, Truth, Falsity, Not, Join}
-use Rattle.rules.specs.declared.kinds.Pair.{Pair}
-use Rattle.rules.specs.declared.kinds.Repeat.{Repeat}
-use Rattle.rules.specs.declared.kinds.RuleKind.the-variants.{Letter, Empty, Two, Again, Counted, Occurs}
-use Rattle.rules.specs.declared.kinds.Kind.{Kind}
-use Rattle.rules.specs.declared.kinds.Kind.the-variants.{OfFormula, OfRule}
-use Rattle.rules.specs.Definition1.{Formula, prop, yea, nay, neg, join, Rule, letter, empty, two, again, counted, occurs}
-use Rattle.rules.specs.Definition2.{lastProposition}
-use Rattle.rules.specs.Kinds.{kindOf}
-use Rattle.rules.specs.Encoding.{CountsFit}
+use Rattle.definitions.specs.declared.kinds.Junction.{Junction}
+use Rattle.definitions.specs.declared.kinds.FormulaKind.the-variants.{Proposition, Truth, Falsity, Not, Join}
+use Rattle.definitions.specs.declared.kinds.Pair.{Pair}
+use Rattle.definitions.specs.declared.kinds.Repeat.{Repeat}
+use Rattle.definitions.specs.declared.kinds.RuleKind.the-variants.{Letter, Empty, Two, Again, Counted, Occurs}
+use Rattle.definitions.specs.declared.kinds.Kind.{Kind}
+use Rattle.definitions.specs.declared.kinds.Kind.the-variants.{OfFormula, OfRule}
+use Rattle.definitions.specs.Definition1.{Formula, prop, yea, nay, neg, join, Rule, letter, empty, two, again, counted, occurs}
+use Rattle.definitions.specs.Definition2.{lastProposition}
+use Rattle.definitions.specs.Kinds.{kindOf}
+use Rattle.definitions.specs.Encoding.{CountsFit}
 
 -- at the place stands a byte of this kind
 pub record Here (s : List ℕ) (at : ℕ) (k : Kind) : Type 0 where

@@ -4,16 +4,16 @@ use mathlib.Core.Bool.{cond}
 use Prim.Native.Nat.{ℕ, _+_}
 use mathlib.Core.List.{List, [], _∷_}
 use lib.Dec.{leb}
-use Rattle.rules.specs.declared.kinds.FormulaKind.{FormulaKind}
-use Rattle.rules.specs.declared.kinds.FormulaKind.the-variants.{Proposition, Truth, Falsity, Not, Join}
-use Rattle.rules.specs.declared.kinds.RuleKind.{RuleKind}
-use Rattle.rules.specs.declared.kinds.RuleKind.the-variants.{Letter, Empty, Two, Again, Counted, Occurs}
-use Rattle.rules.specs.declared.kinds.Kind.{Kind}
-use Rattle.rules.specs.declared.kinds.Kind.the-variants.{OfFormula, OfRule, Unknown}
-use Rattle.rules.specs.Definition2.{lastProposition}
-use Rattle.rules.specs.Definition1.{Formula, prop, yea, nay, neg, join, Rule, letter, empty, two, again, counted, occurs}
-use Rattle.rules.specs.Kinds.{kindOf}
-use Rattle.rules.specs.Encoding.{countsFit}
+use Rattle.definitions.specs.declared.kinds.FormulaKind.{FormulaKind}
+use Rattle.definitions.specs.declared.kinds.FormulaKind.the-variants.{Proposition, Truth, Falsity, Not, Join}
+use Rattle.definitions.specs.declared.kinds.RuleKind.{RuleKind}
+use Rattle.definitions.specs.declared.kinds.RuleKind.the-variants.{Letter, Empty, Two, Again, Counted, Occurs}
+use Rattle.definitions.specs.declared.kinds.Kind.{Kind}
+use Rattle.definitions.specs.declared.kinds.Kind.the-variants.{OfFormula, OfRule, Unknown}
+use Rattle.definitions.specs.Definition2.{lastProposition}
+use Rattle.definitions.specs.Definition1.{Formula, prop, yea, nay, neg, join, Rule, letter, empty, two, again, counted, occurs}
+use Rattle.definitions.specs.Kinds.{kindOf}
+use Rattle.definitions.specs.Encoding.{countsFit}
 
 -- what reading comes to: a rule, or a refusal's number and place
 pub data Outcome : Type 0 where

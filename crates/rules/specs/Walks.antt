@@ -5,21 +5,19 @@ use mathlib.Core.Bool.{Bool, true, false}
 use mathlib.Core.List.{List, _∷_}
 use lib.ListN.{length, getD, drop}
 use Rattle.bits.specs.Word.{word}
-use Rattle.rules.specs.declared.Refusal.{Refusal}
+use Rattle.definitions.specs.declared.Refusal.{Refusal}
 use Rattle.rules.specs.declared.ends.Read.{Read}
 use Rattle.rules.specs.declared.ends.Read.the-variants.{Ends, Refused}
-use Rattle.rules.specs.declared.counts.Counts.{Counts}
+use Rattle.definitions.specs.declared.counts.Counts.{Counts}
 use Rattle.rules.specs.declared.names.Names.{Names}
 use Rattle.rules.specs.declared.weights.Weighed.{Weighed}
-use Rattle.rules.specs.declared.formulas.Held.{Held}
-use Rattle.rules.specs.declared.formulas.Labelled.{Labelled}
-use Rattle.rules.specs.declared.kinds.Junction.{Junction}
-use Rattle.rules.specs.Definition1.{Formula, prop, Rule}
-use Rattle.rules.specs.Definition2.{letterCount, lastProposition, joined, holds}
+use Rattle.definitions.specs.declared.kinds.Junction.{Junction}
+use Rattle.definitions.specs.Definition1.{Formula, prop, Rule}
+use Rattle.definitions.specs.Definition2.{letterCount, lastProposition, joined, holds}
 use Rattle.rules.specs.Weight.{weightOf, countedTo}
 use Rattle.rules.specs.Named.{propositionCount, formulaNames, usesOf}
-use Rattle.rules.specs.Refusals.{number, place}
-use Rattle.rules.specs.Encoding.{CountsFit}
+use Rattle.definitions.specs.Refusals.{number, place}
+use Rattle.definitions.specs.Encoding.{CountsFit}
 use Rattle.rules.specs.Reading.{Outcome, fault, Need, rule, formula, body, counts, Value, Rest, scan}
 use Rattle.rules.specs.Places.{FormulaAt, RuleAt}
 
@@ -52,11 +50,6 @@ abbrev pub endOf : Read → ℕ
 endOf (Ends e) = e
 endOf (Refused x) = 0
 
--- the counts after the kind byte at `at`
-pub record CountsAs (s : List ℕ) (at : ℕ) (c : Counts) : Type 0 where
-  pub low : c .low ≡ getD s (at + 1) 0
-  pub high : c .high ≡ getD s (at + 2) 0
-
 -- the set of the propositions that the formula names, and the end
 abbrev pub NamesAs : List ℕ → ℕ → Names → Type 0
 NamesAs s at n = (f : Formula) (e : ℕ) → FormulaAt s at f e → (n .uses ≡ word propositionCount (formulaNames f)) × (n .end ≡ e)
@@ -64,36 +57,3 @@ NamesAs s at n = (f : Formula) (e : ℕ) → FormulaAt s at f e → (n .uses ≡
 -- the weight, counted up to one above the limit, the set of the propositions that the rule names, and the end
 abbrev pub WeighedAs : List ℕ → ℕ → Weighed → Type 0
 WeighedAs s at w = (r : Rule) (e : ℕ) → RuleAt s at r e → (w .weight ≡ min countedTo (weightOf r)) × (w .uses ≡ usesOf r) × (w .end ≡ e)
-
--- whether the formula holds in the letter x, and the end
-abbrev pub HoldsAs : List ℕ → ℕ → ℕ → Held → Type 0
-HoldsAs s at x h = (f : Formula) (e : ℕ) → FormulaAt s at f e → (h .holds ≡ holds f x) × (h .end ≡ e)
-
--- the formula's label, of the letters below k and of all letters: bit x is set exactly if the formula holds in letter x
-abbrev pub LabelUpTo : List ℕ → ℕ → ℕ → ℕ → Type 0
-LabelUpTo s at k l = (f : Formula) (e : ℕ) → FormulaAt s at f e → l ≡ word k (holds f)
-
-abbrev pub LabelAs : List ℕ → ℕ → ℕ → Type 0
-LabelAs s at l = LabelUpTo s at letterCount l
-
--- the label and the end
-abbrev pub LabelledAs : List ℕ → ℕ → Labelled → Type 0
-LabelledAs s at l = (f : Formula) (e : ℕ) → FormulaAt s at f e → (l .label ≡ word letterCount (holds f)) × (l .end ≡ e)
-
--- a label, or where the `not`s over it are odd in number the label of all other letters
-abbrev pub flipped : Bool → ℕ → ℕ
-flipped false l = l
-flipped true l = 2 ^ letterCount - 1 - l
-
--- from `at` to `to` there are only `not`s: of whatever formula stands at `at` an operand stands at `to`, and they end together
-pub record NotsTo (s : List ℕ) (at to : ℕ) (odd : Bool) : Type 0 where
-  pub under : (f : Formula) (e : ℕ) → FormulaAt s at f e → (g : Formula) × FormulaAt s to g e × (word letterCount (holds f) ≡ flipped odd (word letterCount (holds g)))
-
--- entry i is the label of proposition i
-pub record PropositionLabels (labels : List ℕ) : Type 0 where
-  pub inside : lastProposition < length labels
-  pub entry : (i : ℕ) → i ≤ lastProposition → getD labels i 0 ≡ word letterCount (holds (prop i))
-
--- of two labels, r is the label of the junction
-abbrev pub LabelsJoin : Junction → ℕ → ℕ → ℕ → Type 0
-LabelsJoin j a b r = (f g : ℕ → Bool) → a ≡ word letterCount f → b ≡ word letterCount g → r ≡ word letterCount (λ x. joined j (f x) (g x))

@@ -1,8 +1,8 @@
 -- The weight of a rule: how many states its table has. Assumes nothing: these are definitions.
 use Prim.Native.Nat.{ℕ, zero, suc, _+_, _*_}
-use Rattle.rules.specs.declared.kinds.Pair.{Pair}
-use Rattle.rules.specs.declared.kinds.Pair.the-variants.{Then, Overlap, Either, Within, Both}
-use Rattle.rules.specs.Definition1.{Rule, letter, empty, two, again, counted, occurs}
+use Rattle.definitions.specs.declared.kinds.Pair.{Pair}
+use Rattle.definitions.specs.declared.kinds.Pair.the-variants.{Then, Overlap, Either, Within, Both}
+use Rattle.definitions.specs.Definition1.{Rule, letter, empty, two, again, counted, occurs}
 
 -- the largest weight that is accepted
 abbrev pub weightLimit : ℕ

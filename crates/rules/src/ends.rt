@@ -2,12 +2,12 @@
 ghost use Rattle.rules.specs.Places.{GoodFormula, GoodRule, FormulaEnds, RuleEnds};
 ghost use mathlib.Core.Path.{_≡_};
 ghost use Rattle.rules.specs.Walks.{endOf, BodyRead, CountsRead, FormulaRead, RuleRead};
-use crate::Refusal;
-use crate::counts::counts_fit;
-use crate::kinds::FormulaKind;
-use crate::kinds::Kind;
-use crate::kinds::RuleKind;
-use crate::kinds::kind_of;
+use definitions::Refusal;
+use definitions::counts::counts_fit;
+use definitions::kinds::FormulaKind;
+use definitions::kinds::Kind;
+use definitions::kinds::RuleKind;
+use definitions::kinds::kind_of;
 
 const LAST_PROPOSITION: u8 = 5;
 

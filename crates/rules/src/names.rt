@@ -1,9 +1,9 @@
 // The propositions that a formula which stands in the bytes names, whether or not they matter to its meaning.
 ghost use Rattle.rules.specs.Places.{GoodFormula};
 ghost use Rattle.rules.specs.Walks.{NamesAs};
-use crate::kinds::FormulaKind;
-use crate::kinds::Kind;
-use crate::kinds::kind_of;
+use definitions::kinds::FormulaKind;
+use definitions::kinds::Kind;
+use definitions::kinds::kind_of;
 
 // The propositions that a formula names, bit i for proposition i, and the place after the formula.
 pub struct Names {

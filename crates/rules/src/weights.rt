@@ -2,16 +2,16 @@
 // propositions that it names.
 ghost use mathlib.Core.Path.{_≡_};
 ghost use Prim.Native.Nat.{_≤_, min};
-ghost use Rattle.rules.specs.Encoding.{largestCount};
+ghost use Rattle.definitions.specs.Encoding.{largestCount};
 ghost use Rattle.rules.specs.Places.{GoodRule};
 ghost use Rattle.rules.specs.Weight.{pairWeight, rowWeight, countedTo};
 ghost use Rattle.rules.specs.Walks.{WeighedAs};
-use crate::counts::counts_at;
-use crate::kinds::Kind;
-use crate::kinds::Pair;
-use crate::kinds::RuleKind;
-use crate::kinds::kind_of;
 use crate::names::names_at;
+use definitions::counts::counts_at;
+use definitions::kinds::Kind;
+use definitions::kinds::Pair;
+use definitions::kinds::RuleKind;
+use definitions::kinds::kind_of;
 
 const COUNTED_TO: usize = 65;
 

@@ -2,9 +2,9 @@
 use Prim.Native.Nat.{ℕ, _/_, _%_}
 use mathlib.Core.Path.{_≡_, refl, sym, subst}
 use mathlib.Core.List.{List}
-use Rattle.rules.specs.Definition1.{Rule}
-use Rattle.rules.specs.Definition2.{Sat}
-use Rattle.tables.specs.Table.{Table, Goes}
+use Rattle.definitions.specs.Definition1.{Rule}
+use Rattle.definitions.specs.Definition2.{Sat}
+use Rattle.automata.specs.Table.{Table, Goes}
 use Rattle.models.specs.Model.{Model, Run, spelled}
 use Rattle.models.specs.declared.ModelData.{ModelData}
 use Rattle.models.specs.Stored.{modelOf}
@@ -13,9 +13,9 @@ use Rattle.lasting.specs.Alive.{alive}
 use Rattle.lasting.specs.Stored.{WithoutDeadEnds}
 use Rattle.lasting.proofs.Ways.{lasting-alive, alive-lasting}
 use Rattle.passes.specs.declared.inner.Searched.{Searched}
-use Rattle.passes.specs.Right.{RunKind, Matches, Shown, Reached, Pairs, Answer, found, nothing, Right, Bounded}
+use Rattle.levels.specs.Right.{RunKind, Matches, Shown, Reached, Pairs, Answer, found, nothing, Right, Bounded}
 use Rattle.passes.specs.Told.{answerOf, SearchedTable}
-use Rattle.passes.proofs.Tally.{count-map}
+use Rattle.levels.proofs.Tally.{count-map}
 
 -- ---- two kinds of runs that are the same rows of states and spell the same
 

@@ -2,7 +2,7 @@
 use Prim.Native.Nat.{ℕ}
 use mathlib.Core.Path.{_≡_}
 use mathlib.Core.List.{List}
-use Rattle.rules.specs.Definition1.{Rule}
+use Rattle.definitions.specs.Definition1.{Rule}
 use Rattle.rules.specs.Answer.{AcceptedAs, knownOf}
 use Rattle.rules.specs.declared.Known.{Known}
 use Rattle.models.specs.Stored.{Held}

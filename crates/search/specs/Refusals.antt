@@ -1,7 +1,7 @@
 -- The number and the place of each refusal of a search. Assumes nothing: these are definitions.
 use Prim.Native.Nat.{ℕ}
-use Rattle.rules.specs.Refusals as rules
-use Rattle.rules.specs.Numbers.{shortSlice}
+use Rattle.definitions.specs.Refusals as rules
+use Rattle.definitions.specs.Numbers.{shortSlice}
 use Rattle.models.specs.Answer as models
 use Rattle.search.specs.declared.Refusal.{Refusal}
 use Rattle.search.specs.declared.Refusal.the-variants.{OfRule, OfModel, ShortSlice}

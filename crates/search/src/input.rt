@@ -3,26 +3,26 @@ ghost use mathlib.Core.Path.{_≡_};
 ghost use Prim.Native.Nat.{_≤_};
 ghost use lib.ListN.{length};
 ghost use Rattle.bits.specs.Says.{Says};
-ghost use Rattle.tables.specs.Table.{tableOf};
+ghost use Rattle.automata.specs.Table.{tableOf};
 ghost use Rattle.models.specs.Stored.{modelOf, Held};
 ghost use Rattle.models.specs.Answer as models;
 ghost use Rattle.lasting.specs.Endless.{LastingRun};
-ghost use Rattle.passes.specs.Lent.{LentTable, pairCount};
+ghost use Rattle.levels.specs.Lent.{LentTable, pairCount};
 ghost use Rattle.passes.specs.Told.{SearchedTable};
 ghost use Rattle.search.specs.Answer.{slices, LongEnough};
 ghost use Rattle.search.specs.Input.{InputRight};
 ghost use Rattle.search.specs.inner.Inputs.{InputAnswers};
 use crate::Refusal;
+use automata::TABLE_ENTRIES;
 use lasting::alive::without_dead_ends;
+use levels::shape::PAIRS;
+use levels::shape::Sizes;
 use models::ModelAnswer;
 use models::ModelData;
 use passes::inner::Searched;
 use passes::inner::search_table;
-use passes::shape::PAIRS;
-use passes::shape::Sizes;
 use rules::Known;
 use rules::RuleAnswer;
-use tables::TABLE_ENTRIES;
 
 // What reading comes to.
 pub enum InputAnswer {

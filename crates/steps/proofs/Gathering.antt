@@ -10,7 +10,7 @@ use Rattle.bits.specs.Sets.{In, Members, Over}
 use Rattle.bits.proofs.Laws.{bit-word, word-lt, word-unique, any-meet}
 use Rattle.bits.proofs.Truths.{any-T, and-T, same-truth}
 use Rattle.bits.proofs.Resting.{in-word}
-use Rattle.tables.specs.Table.{tableStates, cell}
+use Rattle.automata.specs.Table.{tableStates, cell}
 use Rattle.steps.specs.Moves.{rowOf, advanced, meets}
 
 -- a member of the row of p

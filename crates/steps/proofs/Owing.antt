@@ -12,7 +12,7 @@ use Rattle.bits.specs.Sets.{In, Over}
 use Rattle.bits.proofs.Laws.{bit-zero, bit-insert}
 use Rattle.bits.proofs.Truths.{or-T, true-T, T-true, false-no}
 use Rattle.bits.proofs.Ranges.{below-older, below-newest, below-split}
-use Rattle.tables.specs.Table.{tableStates, cell}
+use Rattle.automata.specs.Table.{tableStates, cell}
 use Rattle.steps.specs.inner.Puts.{Adds, Owes, Extended, nothing, longer, other, Puts, RowPuts, Scatters}
 
 -- a letter's place and a state, together or apart

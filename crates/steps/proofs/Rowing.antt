@@ -11,8 +11,8 @@ use Rattle.bits.specs.Sets.{In, Below}
 use Rattle.bits.proofs.Laws.{bit-zero, bit-and}
 use Rattle.bits.proofs.Truths.{and-T, false-no}
 use Rattle.bits.proofs.Ranges.{below-older, below-newest, below-split}
-use Rattle.tables.specs.Table.{Table, tableStates, tableEntries, cell, tableOf}
-use Rattle.tables.proofs.promise.TableOf.{edge-out, edge-in}
+use Rattle.automata.specs.Table.{Table, tableStates, tableEntries, cell, tableOf}
+use Rattle.automata.proofs.TableOf.{edge-out, edge-in}
 use Rattle.steps.specs.Rows.{rowsTable, Rowed}
 use Rattle.steps.specs.inner.Puts.{Adds, AllPuts}
 use Rattle.steps.proofs.Adding.{adds-none, adds-then}

@@ -9,8 +9,8 @@ use lib.Dec.{T}
 use Rattle.bits.specs.Word.{bit, any}
 use Rattle.bits.proofs.Laws.{bit-word, bit-suc, bit-zero, bit-low}
 use Rattle.bits.proofs.Truths.{any-T, and-T, true-T, same-truth}
-use Rattle.tables.specs.Table.{tableStates, cell, Table, tableOf, Goes, Accepts}
-use Rattle.tables.proofs.promise.TableOf.{edge-out, edge-in, final-out, final-in}
+use Rattle.automata.specs.Table.{tableStates, cell, Table, tableOf, Goes, Accepts}
+use Rattle.automata.proofs.TableOf.{edge-out, edge-in, final-out, final-in}
 use Rattle.steps.specs.Moves.{advanced, meets, walked}
 
 -- the set {0}

@@ -3,7 +3,7 @@ use Prim.Native.Nat.{ℕ}
 use mathlib.Core.Bool.{Bool, _&&_}
 use mathlib.Core.List.{List, [], _∷_}
 use Rattle.bits.specs.Word.{bit, word, any}
-use Rattle.tables.specs.Table.{tableStates, cell}
+use Rattle.automata.specs.Table.{tableStates, cell}
 
 -- the states that p reaches under the letter x
 unfoldable pub rowOf : List ℕ → ℕ → ℕ → ℕ

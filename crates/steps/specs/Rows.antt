@@ -5,7 +5,7 @@ use mathlib.Core.List.{List}
 use lib.Dec.{T}
 use lib.ListN.{length, getD}
 use Rattle.bits.specs.Word.{bit}
-use Rattle.tables.specs.Table.{Table, tableStates, tableEntries}
+use Rattle.automata.specs.Table.{Table, tableStates, tableEntries}
 
 -- letter x leads to p from some table state of Q
 pub record Into (A : Table) (Q : ℕ → Type 0) (x p : ℕ) : Type 0 where

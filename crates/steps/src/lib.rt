@@ -2,11 +2,11 @@
 ghost use mathlib.Core.Path.{_≡_};
 ghost use Prim.Native.Nat.{_<_, _≤_};
 ghost use lib.ListN.{length};
-ghost use Rattle.rules.specs.Definition2.{letterCount};
-ghost use Rattle.tables.specs.Table.{tableStates, tableEntries};
+ghost use Rattle.definitions.specs.Definition2.{letterCount};
+ghost use Rattle.automata.specs.Table.{tableStates, tableEntries};
 ghost use Rattle.steps.specs.Moves.{rowOf, advanced};
-use tables::STATES;
-use tables::step::in_label;
+use automata::STATES;
+use automata::step::in_label;
 
 pub mod rows; // a table's rows by letter
 

@@ -5,11 +5,11 @@ ghost use lib.Dec.{T};
 ghost use lib.ListN.{length, getD};
 ghost use Rattle.bits.specs.Word.{bit};
 ghost use Rattle.bits.specs.Sets.{In, Members, Over};
-ghost use Rattle.tables.specs.Table.{tableStates, tableEntries, tableOf};
+ghost use Rattle.automata.specs.Table.{tableStates, tableEntries, tableOf};
 ghost use Rattle.steps.specs.Rows.{Rowed};
 ghost use Rattle.steps.specs.inner.Puts.{Adds, Extended, RowPuts, Scatters};
-use tables::STATES;
-use tables::cells::get;
+use automata::STATES;
+use automata::cells::get;
 
 // The union of the words that stand at `base` + k for the members k of the set.
 pub fn union(words: &[u64], base: usize, set: u64) -> u64

@@ -1,4 +1,1 @@
-pub mod language
-pub mod blocks
-pub mod walk
 pub mod promise

@@ -1,5 +1,4 @@
-pub mod TableOf
-pub mod Serving
+pub mod Wholes
 pub mod Tabling
 pub mod Beyonds
 pub mod Once

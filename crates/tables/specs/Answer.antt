@@ -4,15 +4,15 @@ use mathlib.Core.Path.{_≡_}
 use mathlib.Core.List.{List}
 use lib.ListN.{length}
 use Rattle.rules.specs.declared.Known.{Known}
-use Rattle.rules.specs.Definition1.{Rule}
-use Rattle.rules.specs.Numbers.{shortSlice}
+use Rattle.definitions.specs.Definition1.{Rule}
+use Rattle.definitions.specs.Numbers.{shortSlice}
 use Rattle.rules.specs.Answer.{answer, AcceptedAs, knownOf}
 use Rattle.tables.specs.declared.TableAnswer.{TableAnswer}
 use Rattle.tables.specs.declared.TableAnswer.the-variants.{Tabled, Refused}
 use Rattle.tables.specs.Refusals.{number, place}
-use Rattle.tables.specs.Table.{tableEntries}
+use Rattle.automata.specs.Table.{tableEntries}
 use Rattle.tables.specs.Beyond.{Beyond}
-use Rattle.tables.specs.IsTable.{IsTable}
+use Rattle.automata.specs.IsTable.{IsTable}
 
 -- what is known of the rule and its set of finals, with the table in the slice; or refused, with number and place
 pub data Result : Type 0 where

@@ -1,9 +1,3 @@
-pub mod Table
-pub mod Promise
-pub mod Auto
-pub mod Build
-pub mod IsTable
 pub mod Beyond
 pub mod Refusals
 pub mod Answer
-pub mod inner

@@ -1,7 +1,7 @@
 -- The number and the place of each refusal of a table. Assumes nothing: these are definitions.
 use Prim.Native.Nat.{ℕ}
-use Rattle.rules.specs.Refusals as rules
-use Rattle.rules.specs.Numbers.{shortSlice}
+use Rattle.definitions.specs.Refusals as rules
+use Rattle.definitions.specs.Numbers.{shortSlice}
 use Rattle.tables.specs.declared.Refusal.{Refusal}
 use Rattle.tables.specs.declared.Refusal.the-variants.{OfRule, ShortTable}
 

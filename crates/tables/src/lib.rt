@@ -2,39 +2,21 @@
 ghost use mathlib.Core.Path.{_≡_};
 ghost use Prim.Native.Nat.{_≤_};
 ghost use lib.ListN.{length};
-ghost use Rattle.rules.specs.Definition1.{Rule};
+ghost use Rattle.definitions.specs.Definition1.{Rule};
 ghost use Rattle.rules.specs.Answer.{AcceptedAs};
-ghost use Rattle.tables.specs.Table.{tableEntries};
+ghost use Rattle.automata.specs.Table.{tableEntries};
 ghost use Rattle.tables.specs.Refusals.{number, place};
 ghost use Rattle.tables.specs.Answer.{told, BuildRight, TableFor};
+use automata::STATES;
+use automata::TABLE_ENTRIES;
+use definitions::numbers::SHORT_SLICE;
 use rules::Known;
 use rules::RuleAnswer;
-use rules::numbers::SHORT_SLICE;
-
-pub mod step; // whether a letter leads from one state to another
-pub mod cells; // the label from one state to another
-mod clear; // no label
-mod link; // `;` and the repetitions
-mod overlap; // `:`
-mod choice; // `|`
-mod product; // `&&`
-mod any; // `true[*]`, for `&`
-mod within; // `&`
-mod row; // `[*i..j]`
-mod tally; // `[=i..j]`
-mod finals; // sets of final states
-mod shape; // where a rule ends, its weight and its finals
-mod fill; // the labels of a rule, in place
-
-// The most states of a table, and the entries that it takes: a row of labels for each state.
-pub const STATES: usize = 64;
-
-pub const TABLE_ENTRIES: usize = STATES * STATES;
 
 // Why no table is built.
 pub enum Refusal {
     // the rule's own
-    OfRule(rules::Refusal),
+    OfRule(definitions::Refusal),
     // the slice is too short for a table
     ShortTable,
 }
@@ -73,8 +55,8 @@ pub fn build_accepted(rule: &[u8], table: &mut [u64]) -> u64
     requires { ⌜ ((f : Rule) × AcceptedAs (now rule) f) × (tableEntries ≤ length (now table)) ⌝ }
     ensures { λ r. ⌜ TableFor (now (rule .entry)) (now (table .entry)) (now (table .exit)) r ⌝ }
 {
-    clear::clear(table, 0, STATES);
-    let shape = fill::build_at(rule, 0, table, 0);
+    blocks::clear::clear(table, 0, STATES);
+    let shape = blocks::fill::build_at(rule, 0, table, 0);
     shape.finals
 }
 

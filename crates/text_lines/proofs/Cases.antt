@@ -5,7 +5,7 @@ use mathlib.Core.Path.{_≡_, refl, sym, ap, ap₂, subst, _∙_}
 use mathlib.Core.List.{List, [], _∷_, _++_}
 use lib.ListN.{length, take, replicate, length-replicate, length-take}
 use Rattle.rules.specs.declared.Known.{Known}
-use Rattle.rules.specs.Encoding.{spell}
+use Rattle.definitions.specs.Encoding.{spell}
 use Rattle.rules.specs.Answer.{knownOf}
 use Rattle.texts.specs.declared.TextRefusal.{TextRefusal}
 use Rattle.texts.specs.declared.TextAnswer.{TextAnswer}
@@ -19,7 +19,7 @@ use Rattle.writing.proofs.Wrotes.{wrote-more}
 use Rattle.writing.proofs.Shortness.{refused-short}
 use Rattle.text_lines.specs.Hexadecimal.{bytesText}
 use Rattle.text_lines.specs.Input.{textIn}
-use Rattle.text_lines.specs.Line.{lineRoom, shownLength, Fits, Put, answerText, LineRight, written}
+use Rattle.text_lines.specs.Line.{lineRoom, shownLength, TextFits, Put, answerText, LineRight, written}
 use Rattle.text_lines.proofs.Hexes.{bytes-short}
 
 -- the case of the answer
@@ -31,9 +31,9 @@ module _ (answer : TextAnswer) (bytes : List ℕ) {before after : List ℕ} {end
       → Put (told answer) bytes before after end
   refused-says x {n} {p} e a b h l w = says (ap₂ refusedText a b ∙ sym (ap (λ (z : TextAnswer). answerText (told z) bytes) e)) (let k = refused-short n p h l in omega arith) w
 
-module _ (answer : TextAnswer) (bytes out : List ℕ) (fits : Fits (told answer) bytes out) where
+module _ (answer : TextAnswer) (bytes out : List ℕ) (fits : TextFits (told answer) bytes out) where
   pub given-there : (long : ℕ) (k : Known) → answer ≡ Given long k → long ≤ length bytes
-  given-there long k e = subst (λ (a : TextAnswer). Fits (told a) bytes out) e fits .there
+  given-there long k e = subst (λ (a : TextAnswer). TextFits (told a) bytes out) e fits .there
 
   part-short : (long : ℕ) {part : List ℕ} → part ≡ take long bytes → length part ≤ 255
   part-short long q = let f = fits .few in let l = ap length q ∙ length-take long bytes in omega arith
@@ -71,7 +71,7 @@ fresh-long : (bytes : List ℕ) → bytes ≡ replicate 255 0 → length bytes �
 fresh-long bytes new = ap length new ∙ length-replicate {A = ℕ} 255 0
 
 module _ (s out bytes after : List ℕ) (answer : TextAnswer) (new : bytes ≡ replicate 255 0) (room : lineRoom ≤ length out) (right : ReadRight s bytes after (told answer)) where
-  pub line-fits : length after ≡ length bytes → Fits (told answer) after out
+  pub line-fits : length after ≡ length bytes → TextFits (told answer) after out
   line-fits same = record {
     room = room;
     there = let l = read-long s bytes after (told answer) right in omega arith;

@@ -25,7 +25,7 @@ shownLength (given n k) = n
 shownLength (refused n p) = 0
 
 -- the bytes are there, and the output has room for what is said of them
-pub record Fits (x : Result) (bytes out : List ℕ) : Type 0 where
+pub record TextFits (x : Result) (bytes out : List ℕ) : Type 0 where
   pub room : lineRoom ≤ length out
   pub there : shownLength x ≤ length bytes
   pub few : length bytes ≤ 255

@@ -7,7 +7,7 @@ ghost use Rattle.texts.specs.Answer.{told};
 ghost use Rattle.writing.specs.Wrote.{Wrote};
 ghost use Rattle.text_lines.specs.Hexadecimal.{hexDigit, hexOf, spaced, bytesText};
 ghost use Rattle.text_lines.specs.Input.{textIn};
-ghost use Rattle.text_lines.specs.Line.{Fits, Put, LineRight};
+ghost use Rattle.text_lines.specs.Line.{TextFits, Put, LineRight};
 use texts::TextAnswer;
 use writing::front;
 use writing::past;
@@ -94,7 +94,7 @@ fn put_bytes(out: &mut [u8], bytes: &[u8]) -> usize
 
 // What reading came to: the bytes that were written, or the refusal.
 fn put_answer(out: &mut [u8], answer: TextAnswer, bytes: &[u8]) -> usize
-    requires { ⌜ Fits (told answer) (now bytes) (now out) ⌝ }
+    requires { ⌜ TextFits (told answer) (now bytes) (now out) ⌝ }
     ensures { λ r. ⌜ Put (told answer) (now (bytes .entry)) (now (out .entry)) (now (out .exit)) r ⌝ }
 {
     match answer {

@@ -1,9 +1,9 @@
 // Prints what trimming comes to: labels, weights and finals, every refusal, and the search over the trimmed table.
+use automata::STATES;
+use automata::TABLE_ENTRIES;
 use libc::STDOUT_FILENO;
 use passes::inner::Searched;
 use search::SearchAnswer;
-use tables::STATES;
-use tables::TABLE_ENTRIES;
 use tables::TableAnswer;
 use trims::TrimAnswer;
 

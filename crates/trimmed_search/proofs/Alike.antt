@@ -2,15 +2,15 @@
 use Prim.Native.Nat.{ℕ}
 use mathlib.Core.Path.{_≡_, refl, sym, ap, ap₂, subst, _∙_}
 use mathlib.Core.List.{List}
-use Rattle.rules.specs.Definition1.{Rule}
+use Rattle.definitions.specs.Definition1.{Rule}
 use Rattle.rules.specs.Answer.{knownOf}
 use Rattle.rules.proofs.Accepting.{accepted-once}
-use Rattle.tables.specs.Table.{Table, tableOf}
+use Rattle.automata.specs.Table.{Table, tableOf}
 use Rattle.models.specs.Model.{Model}
 use Rattle.models.specs.Stored.{modelOf}
 use Rattle.models.specs.Answer as models
 use Rattle.lasting.specs.Endless.{LastingRun}
-use Rattle.passes.specs.Right.{Answer, found, nothing, Right}
+use Rattle.levels.specs.Right.{Answer, found, nothing, Right}
 use Rattle.search.specs.Answer.{Slices, Result, answered, refused, lengthOf, refusal, searched, SearchRight}
 use Rattle.passes.proofs.TableOnce.{shown-same}
 use Rattle.search.proofs.Once.{refused-once, not-searched}

@@ -2,17 +2,17 @@
 use Prim.Native.Nat.{ℕ}
 use mathlib.Core.Path.{_≡_, sym, subst}
 use mathlib.Core.List.{List}
-use Rattle.rules.specs.Definition1.{Rule}
+use Rattle.definitions.specs.Definition1.{Rule}
 use Rattle.rules.specs.Weight.{weightOf}
 use Rattle.rules.specs.Answer.{knownOf}
 use Rattle.tables.specs.declared.TableAnswer.the-variants.{Tabled}
-use Rattle.tables.specs.Table.{tableOf}
+use Rattle.automata.specs.Table.{tableOf}
 use Rattle.tables.proofs.promise.Once as tables-once
 use Rattle.trims.specs.Answer.{TrimRight, trimmed}
 use Rattle.trims.proofs.Once as trims-once
 use Rattle.models.specs.Model.{Model}
 use Rattle.search.specs.declared.SearchAnswer.{SearchAnswer}
-use Rattle.passes.specs.Right.{Answer}
+use Rattle.levels.specs.Right.{Answer}
 use Rattle.search.specs.Answer.{Slices, LongEnough, told, SearchDone}
 use Rattle.search.proofs.Once.{done-once, one-call-answer}
 use Rattle.trimmed_search.specs.Answer.{TrimmedFor, TrimmedSearches, TrimmedSearchRight}

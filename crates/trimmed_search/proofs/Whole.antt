@@ -5,12 +5,12 @@ use mathlib.Core.Path.{_≡_, sym}
 use mathlib.Core.List.{List}
 use lib.ListN.{length}
 use Rattle.rules.specs.declared.Known.{Known}
-use Rattle.rules.specs.Definition1.{Rule}
+use Rattle.definitions.specs.Definition1.{Rule}
 use Rattle.rules.specs.Weight.{weightOf}
 use Rattle.rules.specs.Answer.{knownOf}
-use Rattle.tables.specs.Table.{tableEntries, tableOf}
-use Rattle.tables.specs.IsTable.{Words}
-use Rattle.tables.specs.Promise.{Serves}
+use Rattle.automata.specs.Table.{tableEntries, tableOf}
+use Rattle.automata.specs.IsTable.{Words}
+use Rattle.automata.specs.Promise.{Serves}
 use Rattle.tables.specs.Answer.{TableFor}
 use Rattle.trims.specs.Stands.{Stands}
 use Rattle.trims.specs.Trimmed.{Trimmed}
@@ -21,7 +21,7 @@ use Rattle.lasting.specs.Endless.{LastingRun}
 use Rattle.passes.specs.declared.inner.Searched.{Searched}
 use Rattle.search.specs.declared.input.InputRead.{InputRead}
 use Rattle.search.specs.declared.SearchAnswer.the-variants.{Answered}
-use Rattle.passes.specs.Lent.{LentTable}
+use Rattle.levels.specs.Lent.{LentTable}
 use Rattle.passes.specs.Told.{SearchedTable}
 use Rattle.search.specs.Answer.{Slices, slices, told}
 use Rattle.search.specs.Input.{Usable, InputRight}

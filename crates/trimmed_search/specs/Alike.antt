@@ -2,7 +2,7 @@
 use Prim.Native.Nat.{ℕ}
 use mathlib.Core.List.{List}
 use Rattle.rules.specs.declared.Known.{Known}
-use Rattle.passes.specs.Right.{found, nothing}
+use Rattle.levels.specs.Right.{found, nothing}
 use Rattle.search.specs.Answer.{Result, answered, refused}
 
 -- the same refusal, the same run, or no run in both

@@ -1,15 +1,15 @@
 -- What a search over the trimmed table comes to, for every rule, every model and every four slices. Assumes nothing: these are definitions.
 use Prim.Native.Nat.{ℕ}
 use mathlib.Core.List.{List}
-use Rattle.rules.specs.Definition1.{Rule}
+use Rattle.definitions.specs.Definition1.{Rule}
 use Rattle.rules.specs.Weight.{weightOf}
 use Rattle.rules.specs.Answer.{AcceptedAs, knownOf}
-use Rattle.tables.specs.Table.{tableOf}
-use Rattle.tables.specs.IsTable.{Words}
+use Rattle.automata.specs.Table.{tableOf}
+use Rattle.automata.specs.IsTable.{Words}
 use Rattle.tables.specs.Answer.{BuildRight, tabled}
 use Rattle.trims.specs.Answer.{TrimRight, trimmed}
 use Rattle.models.specs.Model.{Model}
-use Rattle.passes.specs.Right.{Answer}
+use Rattle.levels.specs.Right.{Answer}
 use Rattle.search.specs.Answer.{Slices, Result, SearchDone, CallRight}
 
 -- the slice t becomes t′ by building the rule's table and then trimming it, to n states with finals f; it is `built` between the two

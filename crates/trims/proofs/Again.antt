@@ -10,7 +10,7 @@ use Rattle.bits.specs.Word.{bit, all}
 use Rattle.bits.proofs.Laws.{lt-or-ge}
 use Rattle.bits.proofs.Truths.{false-no}
 use Rattle.bits.proofs.Firsts.{all-lt, all-in, all-out, count-all}
-use Rattle.tables.specs.Table.{tableStates, tableEntries, cell}
+use Rattle.automata.specs.Table.{tableStates, tableEntries, cell}
 use Rattle.tables.proofs.promise.Beyonds.{beyond-none}
 use Rattle.trims.specs.Kept.{Kept, KeptSet, start, passes, newNumber}
 use Rattle.trims.specs.Stands.{Stands}

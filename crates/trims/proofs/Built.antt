@@ -4,13 +4,13 @@ use native.Mathlib.Omega.{arith}
 use mathlib.Core.Logic.{_≢_, inl, inr, ⊎-elim}
 use mathlib.Core.List.{List}
 use Rattle.bits.proofs.Laws.{lt-or-ge}
-use Rattle.rules.specs.Definition1.{Rule}
+use Rattle.definitions.specs.Definition1.{Rule}
 use Rattle.rules.specs.Weight.{weightOf}
 use Rattle.rules.proofs.Weighing.{weight-pos}
-use Rattle.tables.specs.Table.{tableStates, cell, tableOf}
-use Rattle.tables.specs.Promise.{Serves}
-use Rattle.tables.specs.IsTable.{IsTable, Words}
-use Rattle.tables.proofs.promise.Serving.{final-inside, outside, serves}
+use Rattle.automata.specs.Table.{tableStates, cell, tableOf}
+use Rattle.automata.specs.Promise.{Serves}
+use Rattle.automata.specs.IsTable.{IsTable, Words}
+use Rattle.automata.proofs.Serving.{final-inside, outside, serves}
 use Rattle.trims.specs.Stands.{Stands}
 use Rattle.trims.specs.Trimmed.{Trimmed}
 use Rattle.trims.proofs.Same.{serves-same}

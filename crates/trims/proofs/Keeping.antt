@@ -12,7 +12,7 @@ use Rattle.bits.specs.Sets.{Members}
 use Rattle.bits.proofs.Sayings.{says-map, says-some}
 use Rattle.bits.proofs.Members.{members-first, members-and, add-out, add-old, add-new}
 use Rattle.bits.proofs.Resting.{in-word}
-use Rattle.tables.specs.Table.{cell}
+use Rattle.automata.specs.Table.{cell}
 use Rattle.trims.specs.Paths.{Link, Reach, first, next, Ends, here, on}
 use Rattle.trims.specs.Kept.{Kept, start, passes, KeptSet}
 use Rattle.trims.specs.Stands.{Stands}

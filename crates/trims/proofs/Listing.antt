@@ -11,7 +11,7 @@ use lib.Seq.{getD-set-same, getD-set-other}
 use Rattle.bits.specs.Word.{bit, many}
 use Rattle.bits.proofs.Laws.{lt-or-ge}
 use Rattle.bits.proofs.Truths.{true-T}
-use Rattle.tables.specs.Table.{tableStates}
+use Rattle.automata.specs.Table.{tableStates}
 use Rattle.trims.specs.Kept.{newNumber}
 use Rattle.trims.specs.inner.Lists.{Listed, Lists}
 use Rattle.trims.specs.inner.Moves.{Rising}

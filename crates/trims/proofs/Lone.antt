@@ -7,9 +7,9 @@ use mathlib.Core.List.{List, [], _∷_}
 use lib.Dec.{T}
 use Rattle.bits.proofs.Laws.{lt-or-ge}
 use Rattle.bits.proofs.Members.{some-member, members-bits}
-use Rattle.tables.specs.Table.{tableStates, Table, cell, tableOf, Goes, Accepts}
-use Rattle.tables.specs.IsTable.{Words}
-use Rattle.tables.proofs.promise.TableOf.{edge-in, final-in}
+use Rattle.automata.specs.Table.{tableStates, Table, cell, tableOf, Goes, Accepts}
+use Rattle.automata.specs.IsTable.{Words}
+use Rattle.automata.proofs.TableOf.{edge-in, final-in}
 use Rattle.trims.specs.Paths.{Link, Reach, first, next, Ends, here, on}
 use Rattle.trims.specs.Kept.{Kept, start, passes, newNumber}
 use Rattle.trims.specs.Stands.{Stands}

@@ -10,8 +10,8 @@ use lib.ListN.{getD}
 use borrow.Author.Tests.{lt-ltb, le-ltb}
 use Rattle.bits.specs.Word.{bit, word, insert}
 use Rattle.bits.proofs.Laws.{lt-or-ge, word-step, word-skip}
-use Rattle.tables.specs.Table.{tableStates, cell}
-use Rattle.tables.specs.inner.Cells.{In, Put}
+use Rattle.automata.specs.Table.{tableStates, cell}
+use Rattle.automata.specs.inner.Cells.{In, Put}
 use Rattle.trims.specs.inner.Moves.{Rising, movedLabel, movedFinal}
 
 module _ (t from : List ℕ) (n i j : ℕ) where

@@ -5,7 +5,7 @@ use lib.Dec.{T}
 use Rattle.bits.specs.Word.{bit, many, all}
 use Rattle.bits.proofs.Ranks.{rank-less, rank-once, rank-le, rank-onto}
 use Rattle.bits.proofs.Firsts.{rank-all}
-use Rattle.tables.specs.Table.{tableStates}
+use Rattle.automata.specs.Table.{tableStates}
 use Rattle.trims.specs.Kept.{newNumber}
 
 module _ (k : ℕ) where

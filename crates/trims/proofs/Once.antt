@@ -11,7 +11,7 @@ use Rattle.bits.specs.Word.{bit, many}
 use Rattle.bits.proofs.Laws.{ext, lt-or-ge}
 use Rattle.bits.proofs.Truths.{same-truth}
 use Rattle.rules.proofs.Once.{told-once}
-use Rattle.tables.specs.Table.{tableStates, tableEntries, cell}
+use Rattle.automata.specs.Table.{tableStates, tableEntries, cell}
 use Rattle.tables.proofs.promise.Beyonds.{beyond-once}
 use Rattle.trims.specs.declared.Refusal.the-variants.{ShortTable, NoTable}
 use Rattle.trims.specs.declared.TrimmedTable.{TrimmedTable}

@@ -9,10 +9,10 @@ use Rattle.bits.specs.Word.{bit}
 use Rattle.bits.proofs.Laws.{bit-zero}
 use Rattle.bits.proofs.Truths.{false-no}
 use Rattle.bits.proofs.Ranks.{rank-le}
-use Rattle.rules.specs.Definition1.{Rule}
-use Rattle.tables.specs.Table.{tableStates, Table, cell, tableOf, Goes, Accepts}
-use Rattle.tables.specs.Promise.{Serves}
-use Rattle.tables.proofs.promise.TableOf.{edge-out, edge-in, final-out, final-in}
+use Rattle.definitions.specs.Definition1.{Rule}
+use Rattle.automata.specs.Table.{tableStates, Table, cell, tableOf, Goes, Accepts}
+use Rattle.automata.specs.Promise.{Serves}
+use Rattle.automata.proofs.TableOf.{edge-out, edge-in, final-out, final-in}
 use Rattle.trims.specs.Paths.{Link, Reach, first, next, Ends, here, on}
 use Rattle.trims.specs.Kept.{start}
 use Rattle.trims.specs.Stands.{Stands}

@@ -16,7 +16,7 @@ use Rattle.bits.proofs.Truths.{true-T, T-true, false-no}
 use Rattle.bits.proofs.Sayings.{says-map, says-le, say-yes, say-no}
 use Rattle.bits.proofs.Resting.{in-word, meet-says}
 use Rattle.bits.proofs.Firsts.{all-lt}
-use Rattle.tables.specs.Table.{tableStates, cell}
+use Rattle.automata.specs.Table.{tableStates, cell}
 use Rattle.trims.specs.Stands.{Stands, Faulty, final-outside, label-outside}
 use Rattle.trims.specs.inner.Outside.{StrayLabel, StrayRows, StrayFinal, Judged}
 

@@ -11,11 +11,11 @@ use lib.ListN.{getD, length}
 use borrow.Author.Tests.{not-true, not-false}
 use Rattle.bits.specs.Word.{bit, word, many}
 use Rattle.bits.proofs.Laws.{bit-word, bit-above, word-lt, lt-or-ge}
-use Rattle.rules.specs.Numbers.{shortSlice, noTable}
-use Rattle.tables.specs.Table.{tableStates, tableEntries, cell}
-use Rattle.tables.specs.inner.Cells.{In, Put}
+use Rattle.definitions.specs.Numbers.{shortSlice, noTable}
+use Rattle.automata.specs.Table.{tableStates, tableEntries, cell}
+use Rattle.automata.specs.inner.Cells.{In, Put}
 use Rattle.tables.specs.Beyond.{Beyond}
-use Rattle.tables.proofs.blocks.Puts.{dec-in}
+use Rattle.automata.proofs.Puts.{dec-in}
 use Rattle.trims.specs.Kept.{KeptSet, newNumber}
 use Rattle.trims.specs.Stands.{Stands}
 use Rattle.trims.specs.Trimmed.{Trimmed}

@@ -3,8 +3,8 @@ use Prim.Native.Nat.{ℕ, _<_, _≤_}
 use mathlib.Core.Path.{_≡_}
 use mathlib.Core.List.{List}
 use lib.ListN.{length}
-use Rattle.rules.specs.Numbers.{shortSlice, noTable}
-use Rattle.tables.specs.Table.{tableEntries}
+use Rattle.definitions.specs.Numbers.{shortSlice, noTable}
+use Rattle.automata.specs.Table.{tableEntries}
 use Rattle.trims.specs.declared.TrimAnswer.{TrimAnswer}
 use Rattle.trims.specs.declared.TrimAnswer.the-variants as variants
 use Rattle.trims.specs.Stands.{Stands, Faulty}

@@ -1,6 +1,6 @@
 -- The number and the place of each refusal of a trimming. Assumes nothing: these are definitions.
 use Prim.Native.Nat.{ℕ}
-use Rattle.rules.specs.Numbers.{shortSlice, noTable}
+use Rattle.definitions.specs.Numbers.{shortSlice, noTable}
 use Rattle.trims.specs.declared.Refusal.{Refusal}
 use Rattle.trims.specs.declared.Refusal.the-variants.{ShortTable, NoTable}
 

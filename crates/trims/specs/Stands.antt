@@ -5,7 +5,7 @@ use mathlib.Core.Logic.{_≢_, _⊎_}
 use mathlib.Core.List.{List}
 use lib.Dec.{T}
 use Rattle.bits.specs.Word.{bit}
-use Rattle.tables.specs.Table.{tableStates, cell}
+use Rattle.automata.specs.Table.{tableStates, cell}
 
 -- 1 to 64 states; the finals and the labels of the first 4,096 entries lie among them
 pub record Stands (t : List ℕ) (n f : ℕ) : Type 0 where

@@ -6,7 +6,7 @@ use mathlib.Core.Bool.{false}
 use mathlib.Core.List.{List}
 use lib.Dec.{T}
 use Rattle.bits.specs.Word.{bit, many}
-use Rattle.tables.specs.Table.{tableStates, tableEntries, cell}
+use Rattle.automata.specs.Table.{tableStates, tableEntries, cell}
 use Rattle.tables.specs.Beyond.{Beyond}
 use Rattle.trims.specs.Kept.{KeptSet, newNumber}
 

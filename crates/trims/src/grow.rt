@@ -3,11 +3,11 @@ ghost use Prim.Native.Nat.{_<_, _≤_};
 ghost use lib.ListN.{length};
 ghost use Rattle.bits.specs.Says.{Says};
 ghost use Rattle.bits.specs.Sets.{Members};
-ghost use Rattle.tables.specs.Table.{tableStates, tableEntries};
+ghost use Rattle.automata.specs.Table.{tableStates, tableEntries};
 ghost use Rattle.trims.specs.Stands.{Stands};
 ghost use Rattle.trims.specs.Kept.{KeptSet};
 ghost use Rattle.trims.specs.inner.Grown.{Beside, Grown};
-use tables::cells::get;
+use automata::cells::get;
 
 // Whether a label leads from p to q; backwards, from q to p.
 fn is_beside(table: &[u64], back: bool, p: usize, q: usize) -> bool

@@ -2,15 +2,15 @@
 ghost use mathlib.Core.Path.{_≡_};
 ghost use Prim.Native.Nat.{_≤_};
 ghost use lib.ListN.{length};
-ghost use Rattle.tables.specs.Table.{tableEntries};
+ghost use Rattle.automata.specs.Table.{tableEntries};
 ghost use Rattle.trims.specs.Stands.{Stands};
 ghost use Rattle.trims.specs.Trimmed.{Trimmed};
 ghost use Rattle.trims.specs.Refusals.{number, place};
 ghost use Rattle.trims.specs.Answer.{told, TrimRight};
-use rules::numbers::NO_TABLE;
-use rules::numbers::SHORT_SLICE;
-use tables::STATES;
-use tables::TABLE_ENTRIES;
+use automata::STATES;
+use automata::TABLE_ENTRIES;
+use definitions::numbers::NO_TABLE;
+use definitions::numbers::SHORT_SLICE;
 
 mod outside; // what refusal 24 looks for
 mod grow; // the states that labels lead to

@@ -1,9 +1,9 @@
 // The members of a set, in rising order, in a lent slice.
 ghost use Prim.Native.Nat.{_+_, _<_, _≤_};
 ghost use lib.ListN.{length};
-ghost use Rattle.tables.specs.Table.{tableStates};
+ghost use Rattle.automata.specs.Table.{tableStates};
 ghost use Rattle.trims.specs.inner.Lists.{Lists};
-use tables::STATES;
+use automata::STATES;
 
 // The n members below q are listed: lists q too, if it is a member. How many there are then.
 fn list_one(from: &mut [usize], set: u64, q: usize, n: usize) -> usize

@@ -3,11 +3,11 @@ ghost use mathlib.Core.Path.{_≡_};
 ghost use Prim.Native.Nat.{_+_, _<_, _≤_};
 ghost use lib.ListN.{length};
 ghost use Rattle.bits.specs.Word.{word};
-ghost use Rattle.tables.specs.Table.{tableStates, tableEntries};
-ghost use Rattle.tables.specs.inner.Cells.{Put};
+ghost use Rattle.automata.specs.Table.{tableStates, tableEntries};
+ghost use Rattle.automata.specs.inner.Cells.{Put};
 ghost use Rattle.trims.specs.inner.Moves.{Rising, movedLabel, movedFinal, movedFinals};
-use tables::cells::get;
-use tables::cells::put;
+use automata::cells::get;
+use automata::cells::put;
 
 // The label from the new state i to the new state j, none outside the m new states.
 fn moved_label(table: &[u64], from: &[usize], m: usize, i: usize, j: usize) -> u64

@@ -2,10 +2,10 @@
 ghost use Prim.Native.Nat.{_<_, _≤_};
 ghost use lib.ListN.{length};
 ghost use Rattle.bits.specs.Says.{Says};
-ghost use Rattle.tables.specs.Table.{tableStates, tableEntries};
+ghost use Rattle.automata.specs.Table.{tableStates, tableEntries};
 ghost use Rattle.trims.specs.inner.Outside.{StrayLabel, StrayRow, StrayRows, StrayFinal, Judged};
-use tables::STATES;
-use tables::cells::get;
+use automata::STATES;
+use automata::cells::get;
 
 // Whether a label from p to q lies outside n states.
 fn stray_label(table: &[u64], n: usize, p: usize, q: usize) -> bool

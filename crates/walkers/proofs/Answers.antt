@@ -11,12 +11,12 @@ use lib.Dec.{eqb}
 use lib.ListN.{length, getD, drop}
 use lib.Seq.{drop-cons, drop-length}
 use borrow.Author.Tests.{lt-ltb, le-ltb, ne-eqb}
-use Rattle.rules.specs.Definition2.{letterCount}
-use Rattle.rules.specs.Numbers.{shortSlice, badLetter, fullCount}
+use Rattle.definitions.specs.Definition2.{letterCount}
+use Rattle.definitions.specs.Numbers.{shortSlice, badLetter, fullCount}
 use Rattle.walkers.specs.declared.Walker.{Walker}
 use Rattle.walkers.specs.declared.StepAnswer.the-variants.{Moved}
 use Rattle.walkers.specs.declared.Step.{Step}
-use Rattle.tables.specs.Table.{tableEntries}
+use Rattle.automata.specs.Table.{tableEntries}
 use Rattle.steps.specs.Moves.{advanced, meets}
 use Rattle.steps.proofs.Gathering.{advanced-lt, meets-test}
 use Rattle.walkers.specs.Steps.{largestCount, walkerAt, flag, refusal, told, given, ledTo, refusedAs, stepOf}

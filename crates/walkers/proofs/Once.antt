@@ -5,7 +5,7 @@ use Prim.Native.Nat.{ℕ}
 use mathlib.Core.Path.{_≡_, refl, sym, ap, _∙_}
 use mathlib.Core.List.{List}
 use lib.Dec.{eqb}
-use Rattle.rules.specs.Numbers.{shortSlice, badLetter}
+use Rattle.definitions.specs.Numbers.{shortSlice, badLetter}
 use Rattle.rules.proofs.Once.{told-once}
 use Rattle.walkers.specs.declared.Walker.{Walker}
 use Rattle.walkers.specs.declared.Refusal.{Refusal}
@@ -16,7 +16,7 @@ use Rattle.walkers.specs.declared.FollowAnswer.{FollowAnswer}
 use Rattle.walkers.specs.declared.FollowAnswer.the-variants as follow-variants
 use Rattle.walkers.specs.declared.Step.{Step}
 use Rattle.walkers.specs.Refusals.{number, place}
-use Rattle.walkers.specs.Steps.{Outcome, flag, refusal, outcome, Told, told, given, stepOf}
+use Rattle.walkers.specs.Steps.{Reply, flag, refusal, replyOf, Told, told, given, stepOf}
 use Rattle.walkers.specs.Walks.{ending, followOf, Follows}
 use Rattle.walkers.proofs.Walking.{follow-sat}
 
@@ -29,11 +29,11 @@ named-told ShortTable = refl
 named-told (BadLetter i) = refl
 named-told FullCount = refl
 
-abbrev answerOf : Outcome → StepAnswer
+abbrev answerOf : Reply → StepAnswer
 answerOf (flag b) = step-variants.Moved b
 answerOf (refusal n i) = step-variants.Refused (named n i)
 
-answer-back : (a : StepAnswer) → answerOf (outcome a) ≡ a
+answer-back : (a : StepAnswer) → answerOf (replyOf a) ≡ a
 answer-back (step-variants.Moved b) = refl
 answer-back (step-variants.Refused x) = ap step-variants.Refused (named-told x)
 
@@ -50,7 +50,7 @@ one-step t w x r s d e = told-once told stepBack step-back r s (d ∙ sym e)
 pub one-lent : (t : List ℕ) (w : Walker) (x : ℕ) (v u : Walker) (a b : StepAnswer) → told (given v a) ≡ stepOf t w x → told (given u b) ≡ stepOf t w x → (a ≡ b) × (v ≡ u)
 one-lent t w x v u a b d e = let s = one-step t w x (given v a) (given u b) d e in (λ i. s i .answer, λ i. s i .walker)
 
-abbrev followBack : Outcome → FollowAnswer
+abbrev followBack : Reply → FollowAnswer
 followBack (flag b) = follow-variants.Ended b
 followBack (refusal n i) = follow-variants.Refused (named n i)
 

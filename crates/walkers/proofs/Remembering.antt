@@ -10,11 +10,11 @@ use lib.ListN.{length, length-append}
 use borrow.Author.Tests.{lt-ltb, le-ltb, ltb-true}
 use Rattle.bits.specs.Word.{bit}
 use Rattle.bits.proofs.Truths.{true-T, T-true}
-use Rattle.rules.specs.Definition1.{Rule}
-use Rattle.rules.specs.Definition2.{letterCount, Begins, Sat}
-use Rattle.rules.specs.Numbers.{shortSlice, badLetter, fullCount}
-use Rattle.tables.specs.Table.{tableStates, tableEntries, tableOf}
-use Rattle.tables.specs.Promise.{Letters, Serves}
+use Rattle.definitions.specs.Definition1.{Rule}
+use Rattle.definitions.specs.Definition2.{letterCount, Begins, Sat}
+use Rattle.definitions.specs.Numbers.{shortSlice, badLetter, fullCount}
+use Rattle.automata.specs.Table.{tableStates, tableEntries, tableOf}
+use Rattle.automata.specs.Promise.{Letters, Serves}
 use Rattle.steps.specs.Moves.{advanced, meets, walked}
 use Rattle.steps.proofs.Walking.{start-meets, walk-accepts}
 use Rattle.walkers.specs.declared.Walker.{Walker}

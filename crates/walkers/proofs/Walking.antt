@@ -10,14 +10,14 @@ use lib.ListN.{length}
 use borrow.Author.Tests.{lt-ltb, le-ltb}
 use Rattle.bits.specs.Word.{bit}
 use Rattle.bits.proofs.Truths.{true-T, T-true}
-use Rattle.rules.specs.Definition1.{Rule}
-use Rattle.rules.specs.Definition2.{letterCount, Sat}
-use Rattle.tables.specs.Table.{tableStates, tableEntries, tableOf}
-use Rattle.tables.specs.Promise.{Letters, Serves}
+use Rattle.definitions.specs.Definition1.{Rule}
+use Rattle.definitions.specs.Definition2.{letterCount, Sat}
+use Rattle.automata.specs.Table.{tableStates, tableEntries, tableOf}
+use Rattle.automata.specs.Promise.{Letters, Serves}
 use Rattle.steps.specs.Moves.{advanced, meets, walked}
 use Rattle.steps.proofs.Walking.{start-meets, walk-accepts}
 use Rattle.walkers.specs.declared.Walker.{Walker}
-use Rattle.walkers.specs.Steps.{largestCount, startOf, Outcome, flag, ledTo, movedBy, stepOf}
+use Rattle.walkers.specs.Steps.{largestCount, startOf, Reply, flag, ledTo, movedBy, stepOf}
 use Rattle.walkers.specs.Walks.{followFrom, followOf, lastSays}
 
 -- over letters and a long table nothing is refused
@@ -45,11 +45,11 @@ module _ (t : List ℕ) (long : tableEntries ≤ length t) where
   unfolding followOf
   follow-walks finals w h = rw (le-ltb (length t) tableEntries long) (follow-from finals 1 0 w h)
 
-flag-is : (o : Outcome) (b : Bool) → o ≡ flag b → (o ≡ flag true) ↔ T b
+flag-is : (o : Reply) (b : Bool) → o ≡ flag b → (o ≡ flag true) ↔ T b
 flag-is o b e = (λ d. let z : b ≡ true = cc in true-T z, λ s. e ∙ ap flag (T-true b s))
 
 -- a flag that is true exactly if P is false exactly if P is not
-flag-not : {P : Type 0} (o : Outcome) (b : Bool) → o ≡ flag b → (o ≡ flag true) ↔ P → (o ≡ flag false) ↔ (P → ⊥)
+flag-not : {P : Type 0} (o : Reply) (b : Bool) → o ≡ flag b → (o ≡ flag true) ↔ P → (o ≡ flag false) ↔ (P → ⊥)
 flag-not o true e h = (λ q. absurd (let z : _≡_ {A = ℕ} 0 1 = cc in omega arith), λ n. absurd (n (h .0 e)))
 flag-not o false e h = (λ q p. let y = h .1 p in let z : _≡_ {A = ℕ} 0 1 = cc in omega arith, λ n. e)
 

@@ -1,6 +1,6 @@
 -- The number and the place of each refusal of a walker. Assumes nothing: these are definitions.
 use Prim.Native.Nat.{ℕ}
-use Rattle.rules.specs.Numbers.{shortSlice, badLetter, fullCount}
+use Rattle.definitions.specs.Numbers.{shortSlice, badLetter, fullCount}
 use Rattle.walkers.specs.declared.Refusal.{Refusal}
 use Rattle.walkers.specs.declared.Refusal.the-variants.{ShortTable, BadLetter, FullCount}
 

@@ -5,8 +5,8 @@ use mathlib.Core.Logic.{_↔_}
 use mathlib.Core.Bool.{Bool, true, false}
 use mathlib.Core.List.{List, [], _∷_, _++_}
 use lib.ListN.{length}
-use Rattle.rules.specs.Definition1.{Rule}
-use Rattle.rules.specs.Definition2.{Begins, Sat}
+use Rattle.definitions.specs.Definition1.{Rule}
+use Rattle.definitions.specs.Definition2.{Begins, Sat}
 use Rattle.steps.specs.Moves.{meets}
 use Rattle.walkers.specs.declared.Walker.{Walker}
 use Rattle.walkers.specs.Steps.{startOf, flag, refusal, stepOf}

@@ -5,9 +5,9 @@ use mathlib.Core.List.{List}
 use lib.Dec.{ltb}
 use lib.ListN.{length}
 use Rattle.bits.specs.Word.{bit}
-use Rattle.rules.specs.Definition2.{letterCount}
-use Rattle.rules.specs.Numbers.{shortSlice, badLetter, fullCount}
-use Rattle.tables.specs.Table.{tableEntries}
+use Rattle.definitions.specs.Definition2.{letterCount}
+use Rattle.definitions.specs.Numbers.{shortSlice, badLetter, fullCount}
+use Rattle.automata.specs.Table.{tableEntries}
 use Rattle.steps.specs.Moves.{advanced, meets}
 use Rattle.walkers.specs.declared.Walker.{Walker}
 use Rattle.walkers.specs.declared.StepAnswer.{StepAnswer}
@@ -28,21 +28,21 @@ abbrev pub startOf : ℕ → Walker
 startOf finals = walkerAt 1 finals 0 0 (bit finals 0)
 
 -- an answer in the paper's terms: whether it matches, or a refusal's number and place
-pub data Outcome : Type 0 where
-  flag : Bool → Outcome
-  refusal : ℕ → ℕ → Outcome
+pub data Reply : Type 0 where
+  flag : Bool → Reply
+  refusal : ℕ → ℕ → Reply
 
-abbrev pub outcome : StepAnswer → Outcome
-outcome (Moved b) = flag b
-outcome (Refused x) = refusal (number x) (place x)
+abbrev pub replyOf : StepAnswer → Reply
+replyOf (Moved b) = flag b
+replyOf (Refused x) = refusal (number x) (place x)
 
 -- what a step tells: the walker, and the answer in the paper's terms
 pub record Told : Type 0 where
   pub walker : Walker
-  pub says : Outcome
+  pub says : Reply
 
 abbrev pub told : Step → Told
-told s = record { walker = s .walker; says = outcome (s .answer) }
+told s = record { walker = s .walker; says = replyOf (s .answer) }
 
 -- the step that gives back this walker and says this, as one that was lent tells it
 abbrev pub given : Walker → StepAnswer → Step

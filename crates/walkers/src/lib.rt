@@ -4,18 +4,18 @@ ghost use Prim.Native.Nat.{_<_};
 ghost use Rattle.walkers.specs.Refusals.{number, place};
 ghost use Rattle.walkers.specs.Steps.{largestCount, walkerAt, startOf, refusedAs, ledTo, given, told, stepOf};
 ghost use Rattle.walkers.specs.Walks.{followOf, ending, Follows};
-use rules::formulas::LETTER_COUNT;
-use rules::numbers::BAD_LETTER;
-use rules::numbers::FULL_COUNT;
-use rules::numbers::SHORT_SLICE;
+use automata::TABLE_ENTRIES;
+use definitions::numbers::BAD_LETTER;
+use definitions::numbers::FULL_COUNT;
+use definitions::numbers::SHORT_SLICE;
+use formulas::LETTER_COUNT;
 use steps::advance;
-use tables::TABLE_ENTRIES;
 
 // A letter is below this.
-const LETTERS: u8 = LETTER_COUNT as u8;
+pub const LETTERS: u8 = LETTER_COUNT as u8;
 
 // The count of letters goes up to this.
-const LARGEST_COUNT: u32 = 4294967295;
+pub const LARGEST_COUNT: u32 = 4294967295;
 
 // The states that it may be in, and the final states; how many letters it has taken, how many it had taken at its first
 // match, 0 if there is none yet, and whether there is one.
@@ -101,7 +101,7 @@ impl Walker {
     }
 
     // No step: the walker as it came.
-    fn refused(self, x: Refusal) -> Step
+    pub fn refused(self, x: Refusal) -> Step
         ensures { λ r. ⌜ told r ≡ refusedAs self (number x) (place x) ⌝ }
     {
         Step {
@@ -111,7 +111,7 @@ impl Walker {
     }
 
     // The walker after one more letter, which led it to the set: a first match stays the first.
-    fn led_to(self, set: u64) -> Walker
+    pub fn led_to(self, set: u64) -> Walker
         requires { ⌜ self .taken < largestCount ⌝ }
         ensures { λ r. ⌜ r ≡ ledTo self set ⌝ }
     {

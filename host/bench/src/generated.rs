@@ -1,21 +1,21 @@
 //! Generated rules and models.
 
-use crate::timing::{micros, several, Times};
+use crate::timing::{self, columns, several, Times};
 use cases::{letters, models, rules, Draws};
 use gongcollar::{Table, Workspace, ENTRIES, STATES};
-use std::time::Duration;
 
 const CASES: usize = 1000;
 /// Each call is made so many times, of which the middle one counts.
 const CALLS: usize = 5;
 
-struct Case {
-    rule: Vec<u8>,
-    model: Vec<u8>,
+/// A rule and a model.
+pub struct Case {
+    pub rule: Vec<u8>,
+    pub model: Vec<u8>,
 }
 
 /// Accepted rules, half of them with a model of which some run follows the rule's table, half with any model.
-fn cases(seed: u64) -> Vec<Case> {
+pub fn cases(seed: u64) -> Vec<Case> {
     let mut draws = Draws::new(seed);
     (0..CASES).map(|at| case(&mut draws, at % 2 == 0)).collect()
 }
@@ -38,11 +38,7 @@ pub fn run(seed: u64) {
     println!();
     println!("{CASES} generated rules and models, seed {seed}. Each call is made {CALLS} times, of which the middle one");
     println!("counts. {}", outcomes(&cases));
-    println!();
-    println!(
-        "{:<20}{:>10}{:>10}{:>10}{:>12}",
-        "", "median", "90 %", "largest", "all"
-    );
+    columns();
     let mut table = vec![0; ENTRIES];
     row("build, proved", &cases, |case| {
         gongcollar::build_into(&case.rule, &mut table).is_ok()
@@ -71,11 +67,7 @@ fn sizes(cases: &[Case]) {
     println!();
     println!("`trimmed` is the search that trims the table before it looks. The weights of the tables and the");
     println!("pairs of the searches, with tables as they are built and as they are trimmed:");
-    println!();
-    println!(
-        "{:<20}{:>10}{:>10}{:>10}{:>12}",
-        "", "median", "90 %", "largest", "all"
-    );
+    columns();
     let tables = || {
         cases
             .iter()
@@ -136,12 +128,6 @@ fn outcomes(cases: &[Case]) -> String {
 
 fn row<T>(name: &str, cases: &[Case], mut call: impl FnMut(&Case) -> T) {
     let middle = |case| several(CALLS, || call(case)).median();
-    let times = Times::of(cases.iter().map(middle).collect::<Vec<Duration>>());
-    println!(
-        "{name:<20}{:>10}{:>10}{:>10}{:>12}",
-        micros(times.median()),
-        micros(times.ninetieth()),
-        micros(times.largest()),
-        micros(times.total())
-    );
+    let times = cases.iter().map(middle).collect();
+    timing::row(name, &Times::of(times));
 }

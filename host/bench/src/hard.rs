@@ -50,9 +50,9 @@ fn row<T: PartialEq + Debug>(
     same
 }
 
-fn searches() -> bool {
-    heading("search");
-    let cases = [
+/// The hard searches: a name, the rule and the model.
+pub fn searched() -> [(&'static str, Vec<u8>, Vec<u8>); 6] {
+    [
         (
             "ring of 64, rounds of 31 and p0",
             heavy::cycle_then_p0(31),
@@ -83,7 +83,12 @@ fn searches() -> bool {
             heavy::dense_again_and_never(),
             models::full(64),
         ),
-    ];
+    ]
+}
+
+fn searches() -> bool {
+    heading("search");
+    let cases = searched();
     let mut same = true;
     for (name, rule, model) in &cases {
         same &= search(name, rule, model);

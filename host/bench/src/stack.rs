@@ -22,6 +22,14 @@ const LETTERS: [u8; 16] = [1; 16];
 /// How many bytes of a rule are told.
 const TOLD: usize = 12;
 
+/// The calls that search take the same.
+type Searching = fn(&[u8], &[u8], &mut Lent<'_>) -> raw::Searched;
+
+const SEARCHES: [(&str, Searching); 2] = [
+    ("search", raw::search),
+    ("search_trimmed", raw::search_trimmed),
+];
+
 /// The deepest that one call went, and on which rule.
 struct Deepest {
     call: &'static str,
@@ -134,27 +142,20 @@ fn measure(rules: &[Vec<u8>]) -> io::Result<Vec<Deepest>> {
     each("lasting", &mut |_| {
         raw::lasting(&model);
     })?;
-    each("search", &mut |rule| {
-        let mut lent = Lent {
-            table: &mut table,
-            work1: &mut work1,
-            work2: &mut work2,
-            run: &mut run,
-        };
-        raw::search(rule, &model, &mut lent);
-    })?;
+    for (name, search) in SEARCHES {
+        each(name, &mut |rule| {
+            let mut lent = Lent {
+                table: &mut table,
+                work1: &mut work1,
+                work2: &mut work2,
+                run: &mut run,
+            };
+            search(rule, &model, &mut lent);
+        })?;
+    }
     each("trim", &mut |rule| {
         raw::trim(&mut full, 64, rule.len() as u64);
         full.fill(u64::MAX);
-    })?;
-    each("search_trimmed", &mut |rule| {
-        let mut lent = Lent {
-            table: &mut table,
-            work1: &mut work1,
-            work2: &mut work2,
-            run: &mut run,
-        };
-        raw::search_trimmed(rule, &model, &mut lent);
     })?;
     each("rulecheck", &mut |rule| {
         raw::rulecheck(&line_input(rule, &model), &mut out);

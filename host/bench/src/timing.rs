@@ -59,6 +59,26 @@ impl Times {
     }
 }
 
+/// Prints what the columns of rows of many times are.
+pub fn columns() {
+    println!();
+    println!(
+        "{:<20}{:>10}{:>10}{:>10}{:>12}",
+        "", "median", "90 %", "largest", "all"
+    );
+}
+
+/// Prints a row of many times.
+pub fn row(name: &str, times: &Times) {
+    println!(
+        "{name:<20}{:>10}{:>10}{:>10}{:>12}",
+        micros(times.median()),
+        micros(times.ninetieth()),
+        micros(times.largest()),
+        micros(times.total())
+    );
+}
+
 /// A time in microseconds, to one place.
 pub fn micros(time: Duration) -> String {
     format!("{:.1}", time.as_secs_f64() * 1e6)

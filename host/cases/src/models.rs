@@ -166,6 +166,17 @@ pub fn ring(count: usize, marked: Option<usize>) -> Vec<u8> {
     bytes_of(&(0..count).map(state).collect::<Vec<_>>())
 }
 
+/// As many states as there can be, of any letters: each leads to the next and to some other, the last to the first, and
+/// about one in eight is initial. All of them last.
+pub fn round(draws: &mut Draws) -> Vec<u8> {
+    let state = |at| State {
+        letter: draws.below(LETTERS) as u8,
+        flag: u8::from(at == 0 || draws.once_in(8)),
+        successors: 1u64 << ((at + 1) % MOST_STATES) | 1 << draws.below(MOST_STATES),
+    };
+    bytes_of(&(0..MOST_STATES).map(state).collect::<Vec<_>>())
+}
+
 /// States of which each leads to all, all initial; state k has letter k.
 pub fn full(count: usize) -> Vec<u8> {
     let state = |at| State {

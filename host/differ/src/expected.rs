@@ -7,20 +7,39 @@ use gongcollar::raw::{
 use gongcollar::{ENTRIES, LINE_BYTES, MODEL_BYTES};
 use plain::Refusal;
 
+/// An answer that can be a refusal.
+trait Answer {
+    fn refused(refusal: Refusal) -> Self;
+}
+
+macro_rules! answers {
+    ($($answer:ident),*) => {
+        $(impl Answer for $answer {
+            fn refused(Refusal { number, place }: Refusal) -> $answer {
+                $answer {
+                    refused: number,
+                    place,
+                    ..$answer::default()
+                }
+            }
+        })*
+    };
+}
+
+answers!(Built, Judged, Lasts, Model, Moved, Rule, Searched, Trimmed, Written);
+
+/// The answer of what was found, or the refusal.
+fn told<T, A: Answer>(found: Result<T, Refusal>, answer: impl FnOnce(T) -> A) -> A {
+    found.map_or_else(A::refused, answer)
+}
+
 /// What `read_rule` should answer.
 pub fn read_rule(rule: &[u8]) -> Rule {
-    match plain::read_rule(rule) {
-        Ok(read) => Rule {
-            weight: read.weight,
-            uses: read.rule.names(),
-            ..Rule::default()
-        },
-        Err(Refusal { number, place }) => Rule {
-            refused: number,
-            place,
-            ..Rule::default()
-        },
-    }
+    told(plain::read_rule(rule), |read| Rule {
+        weight: read.weight,
+        uses: read.rule.names(),
+        ..Rule::default()
+    })
 }
 
 /// What stands in a rule; nothing in a refused one.
@@ -30,38 +49,24 @@ pub fn names(rule: &[u8]) -> u64 {
 
 /// What `build` should answer and write.
 pub fn build(rule: &[u8], table: &mut [u64]) -> Built {
-    match plain::build(rule, table.len()) {
-        Ok(built) => {
-            table[..ENTRIES].copy_from_slice(&built.labels);
-            Built {
-                weight: built.weight,
-                finals: built.finals,
-                uses: names(rule),
-                ..Built::default()
-            }
-        }
-        Err(Refusal { number, place }) => Built {
-            refused: number,
-            place,
+    told(plain::build(rule, table.len()), |built| {
+        table[..ENTRIES].copy_from_slice(&built.labels);
+        Built {
+            weight: built.weight,
+            finals: built.finals,
+            uses: names(rule),
             ..Built::default()
-        },
-    }
+        }
+    })
 }
 
 /// What `judge` should answer.
 pub fn judge(rule: &[u8], letters: &[u8]) -> Judged {
-    match plain::judge(rule, letters) {
-        Ok(accepts) => Judged {
-            accepts: accepts.into(),
-            uses: names(rule),
-            ..Judged::default()
-        },
-        Err(Refusal { number, place }) => Judged {
-            refused: number,
-            place,
-            ..Judged::default()
-        },
-    }
+    told(plain::judge(rule, letters), |accepts| Judged {
+        accepts: accepts.into(),
+        uses: names(rule),
+        ..Judged::default()
+    })
 }
 
 /// A walker as the plain library has it: any mark but 0 says that it has matched.
@@ -92,12 +97,14 @@ pub fn start(finals: u64) -> Walker {
 
 /// What `step` should answer.
 pub fn step(walker: Walker, table: &[u64], letter: u8) -> Stepped {
-    stepped(walker, plain::step(plain_walker(walker), table, letter))
+    let said = plain::step(plain_walker(walker), table, letter);
+    stepped(walker, said)
 }
 
 /// What `step_rows` should answer.
 pub fn step_rows(walker: Walker, rows: &[u64], letter: u8) -> Stepped {
-    stepped(walker, plain::step_rows(plain_walker(walker), rows, letter))
+    let said = plain::step_rows(plain_walker(walker), rows, letter);
+    stepped(walker, said)
 }
 
 /// After a refusal the walker is as it came.
@@ -119,25 +126,18 @@ fn stepped(walker: Walker, said: Result<(plain::Walker, bool), Refusal>) -> Step
 
 /// What `follow` should answer.
 pub fn follow(table: &[u64], finals: u64, letters: &[u8]) -> Moved {
-    moved(plain::follow(table, finals, letters))
+    told(plain::follow(table, finals, letters), moved)
 }
 
 /// What `follow_rows` should answer.
 pub fn follow_rows(rows: &[u64], finals: u64, letters: &[u8]) -> Moved {
-    moved(plain::follow_rows(rows, finals, letters))
+    told(plain::follow_rows(rows, finals, letters), moved)
 }
 
-fn moved(said: Result<bool, Refusal>) -> Moved {
-    match said {
-        Ok(matches) => Moved {
-            matches: matches.into(),
-            ..Moved::default()
-        },
-        Err(Refusal { number, place }) => Moved {
-            refused: number,
-            place,
-            ..Moved::default()
-        },
+fn moved(matches: bool) -> Moved {
+    Moved {
+        matches: matches.into(),
+        ..Moved::default()
     }
 }
 
@@ -166,70 +166,42 @@ fn converted(said: Result<Vec<u64>, Refusal>, out: &mut [u64]) -> Done {
 
 /// What `formula_model` should answer and write.
 pub fn formula_model(formulas: &[u8], model: &mut [u8]) -> Written {
-    match plain::formula_model(formulas, model.len()) {
-        Ok(bytes) => {
-            model[..MODEL_BYTES].copy_from_slice(&bytes);
-            Written {
-                length: MODEL_BYTES as u64,
-                ..Written::default()
-            }
-        }
-        Err(Refusal { number, place }) => Written {
-            refused: number,
-            place,
+    told(plain::formula_model(formulas, model.len()), |bytes| {
+        model[..MODEL_BYTES].copy_from_slice(&bytes);
+        Written {
+            length: MODEL_BYTES as u64,
             ..Written::default()
-        },
-    }
+        }
+    })
 }
 
 /// What `read_model` should answer.
 pub fn read_model(model: &[u8]) -> Model {
-    match plain::read_model(model) {
-        Ok(read) => Model {
-            states: read.letters.len() as u64,
-            ..Model::default()
-        },
-        Err(Refusal { number, place }) => Model {
-            refused: number,
-            place,
-            ..Model::default()
-        },
-    }
+    told(plain::read_model(model), |read| Model {
+        states: read.letters.len() as u64,
+        ..Model::default()
+    })
 }
 
 /// What `lasting` should answer.
 pub fn lasting(model: &[u8]) -> Lasts {
-    match plain::lasting(model) {
-        Ok(told) => Lasts {
-            states: told.states,
-            lasting: told.set,
-            ..Lasts::default()
-        },
-        Err(Refusal { number, place }) => Lasts {
-            refused: number,
-            place,
-            ..Lasts::default()
-        },
-    }
+    told(plain::lasting(model), |told| Lasts {
+        states: told.states,
+        lasting: told.set,
+        ..Lasts::default()
+    })
 }
 
 /// What `trim` should answer and write.
 pub fn trim(table: &mut [u64], weight: u64, finals: u64) -> Trimmed {
-    match plain::trim(table, weight, finals) {
-        Ok(trimmed) => {
-            table[..ENTRIES].copy_from_slice(&trimmed.labels);
-            Trimmed {
-                weight: trimmed.weight,
-                finals: trimmed.finals,
-                ..Trimmed::default()
-            }
-        }
-        Err(Refusal { number, place }) => Trimmed {
-            refused: number,
-            place,
+    told(plain::trim(table, weight, finals), |trimmed| {
+        table[..ENTRIES].copy_from_slice(&trimmed.labels);
+        Trimmed {
+            weight: trimmed.weight,
+            finals: trimmed.finals,
             ..Trimmed::default()
-        },
-    }
+        }
+    })
 }
 
 /// What `search` should answer and write.
@@ -256,22 +228,15 @@ fn search_as(
     slices: &mut Slices,
     leave: impl FnOnce(&mut [u64]),
 ) -> Searched {
-    match searched {
-        Ok(searched) => {
-            slices.work1[..ENTRIES].fill(0);
-            slices.work2[..ENTRIES].fill(0);
-            leave(&mut slices.table);
-            Searched {
-                uses: names(rule),
-                ..found(searched, &mut slices.run)
-            }
+    told(searched, |searched| {
+        slices.work1[..ENTRIES].fill(0);
+        slices.work2[..ENTRIES].fill(0);
+        leave(&mut slices.table);
+        Searched {
+            uses: names(rule),
+            ..found(searched, &mut slices.run)
         }
-        Err(Refusal { number, place }) => Searched {
-            refused: number,
-            place,
-            ..Searched::default()
-        },
-    }
+    })
 }
 
 fn found(searched: plain::Searched, output: &mut [u8]) -> Searched {

@@ -51,7 +51,8 @@ macro_rules! refusals {
                 }
             }
 
-            fn says(&self) -> &'static str {
+            /// What is said of it, without its number and its place.
+            pub fn says(&self) -> &'static str {
                 match self {
                     $(Refusal::$name { .. } => $says,)*
                     Refusal::Unnamed { .. } => "a refusal without a name",

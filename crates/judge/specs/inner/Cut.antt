@@ -6,11 +6,11 @@ use mathlib.Core.Bool.{true}
 use mathlib.Core.List.{List}
 use lib.ListN.{length, getD}
 use Rattle.bits.specs.Word.{num, many}
-use Rattle.rules.specs.declared.counts.Counts.{Counts}
-use Rattle.rules.specs.declared.kinds.Pair.{Pair}
-use Rattle.rules.specs.declared.kinds.Pair.the-variants.{Then, Overlap, Either, Within, Both}
-use Rattle.rules.specs.Definition1.{Formula}
-use Rattle.rules.specs.Definition2.{holds}
+use Rattle.definitions.specs.declared.counts.Counts.{Counts}
+use Rattle.definitions.specs.declared.kinds.Pair.{Pair}
+use Rattle.definitions.specs.declared.kinds.Pair.the-variants.{Then, Overlap, Either, Within, Both}
+use Rattle.definitions.specs.Definition1.{Formula}
+use Rattle.definitions.specs.Definition2.{holds}
 use Rattle.judge.specs.declared.cuts.Operator.{Operator}
 use Rattle.judge.specs.declared.cuts.Operator.the-variants.{Two, Star, Occurs}
 use Rattle.judge.specs.Parts.{yes, Filled}

@@ -3,10 +3,10 @@ use Prim.Native.Nat.{ℕ}
 use mathlib.Core.Bool.{Bool}
 use mathlib.Core.List.{List}
 use Rattle.bits.specs.Says.{Says}
-use Rattle.rules.specs.declared.counts.Counts.{Counts}
-use Rattle.rules.specs.declared.kinds.Repeat.{Repeat}
-use Rattle.rules.specs.Definition1.{Formula, Rule, again, counted}
-use Rattle.rules.specs.Definition2.{Sat}
+use Rattle.definitions.specs.declared.counts.Counts.{Counts}
+use Rattle.definitions.specs.declared.kinds.Repeat.{Repeat}
+use Rattle.definitions.specs.Definition1.{Formula, Rule, again, counted}
+use Rattle.definitions.specs.Definition2.{Sat}
 use Rattle.rules.specs.Places.{FormulaAt, RuleAt}
 use Rattle.judge.specs.Parts.{Few, Judged, RowOf, Filled}
 use Rattle.judge.specs.inner.Cut.{LetterAt}

@@ -10,11 +10,11 @@ use lib.ListN.{getD, set}
 use Rattle.bits.specs.Word.{bit, num}
 use Rattle.bits.specs.Says.{Says}
 use Rattle.bits.specs.Sets.{addIf, Over, In}
-use Rattle.tables.specs.Table.{tableStates}
+use Rattle.automata.specs.Table.{tableStates}
 use Rattle.steps.specs.Rows.{Into, rowsTable}
 use Rattle.models.specs.Model.{modelStates}
-use Rattle.passes.specs.Lent.{pairCount}
-use Rattle.passes.specs.inner.Passes.{view}
+use Rattle.levels.specs.Lent.{pairCount}
+use Rattle.levels.specs.inner.Passes.{view}
 
 -- where the set of useful pairs of state s on level j stands
 abbrev pub usefulAt : ℕ → ℕ → ℕ

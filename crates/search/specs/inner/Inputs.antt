@@ -3,12 +3,12 @@ use Prim.Native.Nat.{ℕ}
 use mathlib.Core.Path.{_≡_}
 use mathlib.Core.Bool.{Bool, true, false}
 use mathlib.Core.List.{List}
-use Rattle.rules.specs.Definition1.{Rule}
+use Rattle.definitions.specs.Definition1.{Rule}
 use Rattle.rules.specs.Answer as rules
 use Rattle.rules.specs.Answer.{AcceptedAs, knownOf}
-use Rattle.rules.specs.Refusals as rule-refusals
+use Rattle.definitions.specs.Refusals as rule-refusals
 use Rattle.rules.specs.declared.Known.{Known}
-use Rattle.rules.specs.declared.Refusal as rule-refusal
+use Rattle.definitions.specs.declared.Refusal as rule-refusal
 use Rattle.models.specs.declared.ModelAnswer.{ModelAnswer}
 use Rattle.models.specs.declared.ModelAnswer.the-variants as model-answer
 use Rattle.models.specs.declared.Refusal as model-refusal

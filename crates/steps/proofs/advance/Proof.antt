@@ -8,7 +8,7 @@ use native.Mathlib.Omega.{arith}
 use Rattle.bits.specs.Word.{bit, many}
 use Rattle.bits.specs.Sets.{Members, Over}
 use Rattle.bits.proofs.Resting.{Done, Rest, rest-all, turn-rest, turn-less, uniting-none, uniting-turn, uniting-end}
-use Rattle.tables.specs.Table.{tableStates, cell}
+use Rattle.automata.specs.Table.{tableStates, cell}
 use Rattle.steps.proofs.Gathering.{row-members, gathered}
 use Rattle.steps.proofs.advance.Statement.{statement}
 use Rattle.steps.proofs.advance.Tie as tie
@@ -29,7 +29,7 @@ row-requires : tie.Need-row-requires Inv-loop μ-loop
 row-requires c κs = omega arith
 
 without-requires : tie.Need-without-requires Inv-loop μ-loop
-without-requires c κs = c .before .lowest .ensures .inside
+without-requires c κs = c .before .lowest .ensures
 
 loop-less : tie.Need-loop-less Inv-loop μ-loop
 loop-less c = turn-less (c .before .before .before .before .loop .inv .1) (c .before .before .lowest .ensures) (c .without .ensures)

@@ -6,7 +6,7 @@ use mathlib.Core.Bool.{Bool}
 use native.Mathlib.Omega.{arith}
 use Rattle.bits.specs.Word.{bit, word}
 use Rattle.bits.proofs.Laws.{turn-set, turn-skip, word-none}
-use Rattle.tables.specs.Table.{cell}
+use Rattle.automata.specs.Table.{cell}
 use Rattle.steps.specs.Moves.{rowOf}
 use Rattle.steps.proofs.row.Statement.{statement}
 use Rattle.steps.proofs.row.Tie as tie

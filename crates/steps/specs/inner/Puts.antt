@@ -8,7 +8,7 @@ use lib.Dec.{T}
 use lib.ListN.{length, getD}
 use Rattle.bits.specs.Word.{bit, insert}
 use Rattle.bits.specs.Sets.{In, Over, Below}
-use Rattle.tables.specs.Table.{tableStates, cell}
+use Rattle.automata.specs.Table.{tableStates, cell}
 
 -- from the array of sets a to b: what S says is added, nothing is lost
 pub record Adds (a b : List ℕ) (S : ℕ → ℕ → Type 0) : Type 0 where

@@ -5,7 +5,7 @@ use mathlib.Core.Path.{_≡_, refl, sym, ap, ap₂, subst, _∙_}
 use mathlib.Core.List.{List}
 use lib.ListN.{getD}
 use Rattle.rules.specs.declared.Known.{Known}
-use Rattle.rules.specs.Definition1.{Rule}
+use Rattle.definitions.specs.Definition1.{Rule}
 use Rattle.rules.specs.Answer.{AcceptedAs, knownOf}
 use Rattle.rules.proofs.Accepting.{not-refused, accepted-once}
 use Rattle.rules.proofs.Once.{told-once, handedOn, handed-on}
@@ -14,13 +14,13 @@ use Rattle.tables.specs.declared.Refusal.the-variants.{OfRule, ShortTabl
 use Rattle.tables.specs.declared.TableAnswer.{TableAnswer}
 use Rattle.tables.specs.declared.TableAnswer.the-variants.{Tabled, Refused}
 use Rattle.tables.specs.Refusals.{number, place}
-use Rattle.tables.specs.Table.{tableStates, tableEntries, tableOf}
-use Rattle.tables.specs.Promise.{Serves}
-use Rattle.tables.specs.IsTable.{IsTable, Words}
+use Rattle.automata.specs.Table.{tableStates, tableEntries, tableOf}
+use Rattle.automata.specs.Promise.{Serves}
+use Rattle.automata.specs.IsTable.{IsTable, Words}
 use Rattle.tables.specs.Beyond.{Beyond}
 use Rattle.tables.specs.Answer.{Result, tabled, refused, told, BuildRight, rule-refused, short-table, the-table}
 use Rattle.tables.proofs.promise.Beyonds.{beyond-once}
-use Rattle.tables.proofs.promise.Serving.{one-table, one-finals, serves}
+use Rattle.automata.proofs.Serving.{one-table, one-finals, serves}
 
 module _ (s t : List ℕ) where
   -- two slices with the rule's table in front and t's entries past it

@@ -5,24 +5,24 @@ use mathlib.Core.Path.{_≡_, refl, sym, ap, subst, _∙_}
 use mathlib.Core.List.{List}
 use lib.ListN.{length, getD}
 use Rattle.rules.specs.declared.Known.{Known}
-use Rattle.rules.specs.declared.Refusal.{Refusal}
+use Rattle.definitions.specs.declared.Refusal.{Refusal}
 use Rattle.rules.specs.declared.RuleAnswer.{RuleAnswer}
 use Rattle.rules.specs.declared.RuleAnswer.the-variants.{Accepted, Refused}
-use Rattle.rules.specs.Definition1.{Rule}
-use Rattle.rules.specs.Refusals.{number, place}
-use Rattle.rules.specs.Numbers.{shortSlice}
+use Rattle.definitions.specs.Definition1.{Rule}
+use Rattle.definitions.specs.Refusals.{number, place}
+use Rattle.definitions.specs.Numbers.{shortSlice}
 use Rattle.rules.specs.Answer as rules
 use Rattle.rules.specs.Answer.{answer, AcceptedAs, knownOf}
 use Rattle.rules.specs.Weight.{weightOf}
 use Rattle.rules.proofs.Accepting.{accepted-rule, accepted-stands}
-use Rattle.tables.specs.declared.shape.Shape.{Shape}
-use Rattle.tables.specs.inner.Cells.{Put}
-use Rattle.tables.specs.inner.Block.{Built}
-use Rattle.tables.specs.inner.Shapes.{Fits, ShapedAs}
-use Rattle.tables.specs.inner.Building.{Ready, BuiltAt}
+use Rattle.automata.specs.declared.shape.Shape.{Shape}
+use Rattle.automata.specs.inner.Cells.{Put}
+use Rattle.automata.specs.inner.Block.{Built}
+use Rattle.automata.specs.inner.Shapes.{Fits, ShapedAs}
+use Rattle.blocks.specs.inner.Building.{Ready, BuiltAt}
 use Rattle.tables.specs.Answer.{BuildRight, refused, tabled, rule-refused, short-table, the-table, TableFor}
-use Rattle.tables.proofs.blocks.Wholes.{is-table}
-use Rattle.tables.specs.Table.{tableStates, tableEntries}
+use Rattle.tables.proofs.promise.Wholes.{is-table}
+use Rattle.automata.specs.Table.{tableStates, tableEntries}
 
 -- a cleared table is ready
 pub ready-whole : (t t₁ : List ℕ) → tableEntries ≤ length t → length t₁ ≡ length t → Put t t₁ 0 tableStates 0 tableStates (λ p q. 0) → Ready t₁ 0

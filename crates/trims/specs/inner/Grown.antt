@@ -5,7 +5,7 @@ use mathlib.Core.Bool.{Bool, cond}
 use mathlib.Core.List.{List}
 use lib.Dec.{T}
 use Rattle.bits.specs.Word.{bit}
-use Rattle.tables.specs.Table.{cell}
+use Rattle.automata.specs.Table.{cell}
 
 -- a label leads from p to q; backwards, from q to p
 pub record Beside (t : List ℕ) (back : Bool) (p q : ℕ) : Type 0 where

@@ -5,7 +5,7 @@ use mathlib.Core.List.{List}
 use lib.Dec.{ltb}
 use lib.ListN.{getD}
 use Rattle.bits.specs.Word.{bit, word}
-use Rattle.tables.specs.Table.{tableStates, cell}
+use Rattle.automata.specs.Table.{tableStates, cell}
 
 -- state i of the n new ones was state `from` i: at or above it, so that what is still needed is never overwritten
 pub record Rising (from : List ℕ) (n : ℕ) : Type 0 where

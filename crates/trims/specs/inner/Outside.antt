@@ -7,7 +7,7 @@ use mathlib.Core.List.{List}
 use lib.Dec.{T}
 use Rattle.bits.specs.Word.{bit}
 use Rattle.bits.specs.Sets.{Over}
-use Rattle.tables.specs.Table.{tableStates, cell}
+use Rattle.automata.specs.Table.{tableStates, cell}
 use Rattle.trims.specs.Stands.{Stands, Faulty}
 
 -- a label leads from p to q, and one of them lies outside n states

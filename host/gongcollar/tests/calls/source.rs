@@ -1,19 +1,24 @@
-//! The header declares what the proved crate `exports` has: the same fields and the same parameters, by name, order and
-//! width. The proofs speak of the source; that the header says the same of its layout is held here.
+//! The header declares what the proved crates have, `c_answers` the structs and `exports` the calls: the same fields and
+//! the same parameters, by name, order and width. The proofs speak of the source; that the header says the same of its
+//! layout is held here.
 
 use crate::header;
 use crate::interface::{bare, between, c_type, listed, part, Answer, Call, Interface, Part};
 use std::fs;
 use std::path::Path;
 
-const SOURCE: &str = concat!(env!("CARGO_MANIFEST_DIR"), "/../../crates/exports/src");
+const CRATES: &str = concat!(env!("CARGO_MANIFEST_DIR"), "/../../crates");
 const ANSWER: &str = "#[repr(C)] pub struct ";
 const CALL: &str = "#[no_mangle] pub extern \"C\" fn ";
 
-/// All modules of the crate, one after the other.
+/// All modules of both crates, one after the other.
 fn source() -> String {
-    let files = fs::read_dir(Path::new(SOURCE)).expect("the source of exports");
-    let texts = files.map(|file| fs::read_to_string(file.unwrap().path()).unwrap());
+    let folders = ["c_answers", "exports"].map(|name| Path::new(CRATES).join(name).join("src"));
+    let files = folders.map(|folder| fs::read_dir(folder).expect("the source of the calls"));
+    let texts = files
+        .into_iter()
+        .flatten()
+        .map(|file| fs::read_to_string(file.unwrap().path()).unwrap());
     texts.map(|text| bare(&text) + "\n").collect()
 }
 
@@ -83,7 +88,7 @@ fn the_header_is_the_proved_sources() {
     assert_eq!(interface(&source).unlike(&header), [""; 0]);
     // Nothing is exported, and nothing given back, in another form than those that are read here.
     assert_eq!(source.matches("extern").count(), header.calls.len());
-    assert_eq!(source.matches("pub struct").count(), header.answers.len());
+    assert_eq!(source.matches("struct Gc").count(), header.answers.len());
 }
 
 /// What the test is for: the source with two words exchanged is no longer the header's.

@@ -241,18 +241,23 @@ fn hold_shape(rule: &[u8], table: &Table) {
     }
 }
 
+/// Holds the table of a rule to Definition 2 on some sequences.
+fn hold_meaning(rule: &[u8], sequences: impl IntoIterator<Item = Vec<u8>>) {
+    let table = build(rule, TABLE_ENTRIES).unwrap();
+    hold_shape(rule, &table);
+    let read = read_rule(rule).unwrap().rule;
+    for w in sequences {
+        let walked = follow(&table.labels, table.finals, &w);
+        assert_eq!(walked, Ok(accepts(&read, &w)), "{rule:x?} {w:?}");
+    }
+}
+
 #[test]
 fn tables_mean_what_definition_2_says() {
     let mut draw = Draw::new(3);
     for _ in 0..300 {
         let rule = draw.light_rule(4, 2, 64);
-        let table = build(&rule, TABLE_ENTRIES).unwrap();
-        hold_shape(&rule, &table);
-        let read = read_rule(&rule).unwrap().rule;
-        for w in sequences(4, 4) {
-            let walked = follow(&table.labels, table.finals, &w);
-            assert_eq!(walked, Ok(accepts(&read, &w)), "{rule:x?} {w:?}");
-        }
+        hold_meaning(&rule, sequences(4, 4));
     }
 }
 
@@ -261,13 +266,6 @@ fn tables_mean_the_same_over_all_letters_and_longer_sequences() {
     let mut draw = Draw::new(4);
     for _ in 0..400 {
         let rule = draw.light_rule(5, 6, 64);
-        let table = build(&rule, TABLE_ENTRIES).unwrap();
-        hold_shape(&rule, &table);
-        let read = read_rule(&rule).unwrap().rule;
-        for length in 0..20 {
-            let w = draw.letters(length, 6);
-            let walked = follow(&table.labels, table.finals, &w);
-            assert_eq!(walked, Ok(accepts(&read, &w)), "{rule:x?} {w:?}");
-        }
+        hold_meaning(&rule, (0..20).map(|length| draw.letters(length, 6)));
     }
 }

@@ -1,6 +1,6 @@
 -- `exports::following::gc_follow` meets its contract: the library's answer is right, and its numbers are given. Assumes nothing.
 use mathlib.Core.Path.{ap, _∙_}
-use Rattle.exports.specs.Numbers.{movedNumbers}
+use Rattle.c_answers.specs.Numbers.{movedNumbers}
 use borrow.Author.Needs.{needs}
 use Rattle.exports.proofs.following.gc_follow.Statement.{statement}
 use Rattle.exports.proofs.following.gc_follow.Tie as tie

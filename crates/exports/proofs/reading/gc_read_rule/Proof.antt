@@ -1,6 +1,6 @@
 -- `exports::reading::gc_read_rule` meets its contract: the library's answer is right, and its numbers are given. Assumes nothing.
 use mathlib.Core.Path.{ap, _∙_}
-use Rattle.exports.specs.Numbers.{ruleNumbers}
+use Rattle.c_answers.specs.Numbers.{ruleNumbers}
 use borrow.Author.Needs.{needs}
 use Rattle.exports.proofs.reading.gc_read_rule.Statement.{statement}
 use Rattle.exports.proofs.reading.gc_read_rule.Tie as tie

@@ -1,6 +1,6 @@
 -- `exports::stepping::gc_start` meets its contract: the numbers of the library's fresh walker. Assumes nothing.
 use mathlib.Core.Path.{ap, _∙_}
-use Rattle.exports.specs.Numbers.{walkerNumbers}
+use Rattle.c_answers.specs.Numbers.{walkerNumbers}
 use borrow.Author.Needs.{needs}
 use Rattle.exports.proofs.stepping.gc_start.Statement.{statement}
 use Rattle.exports.proofs.stepping.gc_start.Tie as tie

@@ -41,16 +41,16 @@ use denote.Triple.Walked.{says, Stays, stay-ref, stay-none, stay-none-slice, wal
 use denote.Triple.Clauses.{ensured, lasts}
 use denote.Exit.{yes}
 use Rattle.walkers.specs.Steps.{stepOf}
-use Rattle.exports.specs.Numbers.{walkerOf, beside, steppedNumbers}
-use Rattle.exports.specs.declared.stepping.GcWalker.{GcWalker}
-use Rattle.exports.specs.declared.stepping.Stepping.{Stepping}
-use Rattle.exports.specs.declared.following.GcMoved.{GcMoved}
-use Rattle.exports.proofs.stepping.GcWalker as T
-use Rattle.exports.proofs.stepping.GcWalker.Laws as T′
-use Rattle.exports.proofs.stepping.Stepping as S
-use Rattle.exports.proofs.stepping.Stepping.Laws as S′
-use Rattle.exports.proofs.following.GcMoved as R
-use Rattle.exports.proofs.following.GcMoved.Laws as R′
+use Rattle.c_answers.specs.Numbers.{walkerOf, beside, steppedNumbers}
+use Rattle.c_answers.specs.declared.stepping.GcWalker.{GcWalker}
+use Rattle.c_answers.specs.declared.stepping.Stepping.{Stepping}
+use Rattle.c_answers.specs.declared.following.GcMoved.{GcMoved}
+use Rattle.c_answers.proofs.stepping.GcWalker as T
+use Rattle.c_answers.proofs.stepping.GcWalker.Laws as T′
+use Rattle.c_answers.proofs.stepping.Stepping as S
+use Rattle.c_answers.proofs.stepping.Stepping.Laws as S′
+use Rattle.c_answers.proofs.following.GcMoved as R
+use Rattle.c_answers.proofs.following.GcMoved.Laws as R′
 use Rattle.exports.proofs.stepping.stepped as step
 use Rattle.exports.proofs.stepping.stepped.Symbol as step-def
 use Rattle.exports.proofs.stepping.stepped.Symbol.{name as #exports·stepped}

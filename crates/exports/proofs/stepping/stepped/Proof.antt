@@ -2,7 +2,7 @@
 use mathlib.Core.Path.{ap, _∙_}
 use Rattle.walkers.specs.declared.Walker.{Walker}
 use Rattle.walkers.specs.Steps as walkers
-use Rattle.exports.specs.Numbers.{steppedNumbers}
+use Rattle.c_answers.specs.Numbers.{steppedNumbers}
 use borrow.Author.Needs.{needs}
 use Rattle.exports.proofs.stepping.stepped.Statement.{statement}
 use Rattle.exports.proofs.stepping.stepped.Tie as tie

@@ -10,7 +10,7 @@ use Rattle.judge.proofs.parts.row_parts.Kinds as row-parts-kinds
 use Rattle.judge.proofs.parts.+row_parts.Lts-row_parts as row-parts-lts
 use Rattle.judge.proofs.parts.empty_parts.Reads as empty-parts-reads
 use Rattle.judge.proofs.parts.pair_parts.Reads as pair-parts-reads
-use Rattle.rules.proofs.counts.after_one.Reads as after-one-reads
+use Rattle.definitions.proofs.counts.after_one.Reads as after-one-reads
 use Rattle.judge.proofs.parts.+row_parts.{statement}
 use Rattle.judge.proofs.parts.+row_parts.Tie.{close}
 

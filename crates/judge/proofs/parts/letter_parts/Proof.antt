@@ -3,7 +3,7 @@ use mathlib.Core.Path.{refl}
 use Prim.Native.Nat.{ℕ, _-_}
 use native.Mathlib.Omega.{arith}
 use borrow.Author.Needs.{needs}
-use Rattle.rules.specs.Definition1.{Formula}
+use Rattle.definitions.specs.Definition1.{Formula}
 use Rattle.rules.specs.Places.{FormulaAt}
 use Rattle.judge.specs.Parts.{side}
 use Rattle.judge.specs.inner.Cut.{LetterAt}

@@ -8,9 +8,9 @@ use borrow.Author.Needs.{needs}
 use borrow.Fn.Kinds.{In}
 use borrow.Fn.PlainCycle.{Measures, is, falls, and}
 use lib.ListN.{length, getD}
-use Rattle.rules.specs.declared.kinds.RuleKind.the-variants.{Letter, Empty, Two, Again, Counted, Occurs}
-use Rattle.rules.specs.declared.kinds.Kind.the-variants.{OfRule}
-use Rattle.rules.specs.Kinds.{kindOf}
+use Rattle.definitions.specs.declared.kinds.RuleKind.the-variants.{Letter, Empty, Two, Again, Counted, Occurs}
+use Rattle.definitions.specs.declared.kinds.Kind.the-variants.{OfRule}
+use Rattle.definitions.specs.Kinds.{kindOf}
 use Rattle.rules.proofs.Walks.{rule-here, is-rule, good-letter, good-again, good-first, good-second, has-counts, good-counted, occurs-counts, good-occurs, counts-told}
 use Rattle.judge.proofs.Operands.{at-letter, at-empty, at-again, at-two, at-none, at-counted, at-occurs, repeated, repeated-once}
 use Rattle.judge.proofs.walk.judge_at.Reads as judge-at
@@ -26,9 +26,9 @@ use Rattle.judge.proofs.parts.pair_parts.Reads as pair-parts-reads
 use Rattle.judge.proofs.parts.plus_parts.Reads as plus-parts-reads
 use Rattle.judge.proofs.parts.row_parts.Reads as row-parts-reads
 use Rattle.judge.proofs.parts.star_parts.Reads as star-parts-reads
-use Rattle.rules.proofs.counts.counts_at.Reads as counts-at-reads
+use Rattle.definitions.proofs.counts.counts_at.Reads as counts-at-reads
 use Rattle.rules.proofs.ends.rule_past.Reads as rule-past-reads
-use Rattle.rules.proofs.kinds.kind_of.Reads as kind-of-reads
+use Rattle.definitions.proofs.kinds.kind_of.Reads as kind-of-reads
 use Rattle.judge.proofs.walk.+judge_at+judge_repeat.{statement}
 use Rattle.judge.proofs.walk.+judge_at+judge_repeat.Tie.{close}
 

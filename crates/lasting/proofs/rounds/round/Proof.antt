@@ -22,7 +22,7 @@ lowest-requires : tie.Need-lowest-requires Inv-loop μ-loop
 lowest-requires c κs = search needs
 
 without-requires : tie.Need-without-requires Inv-loop μ-loop
-without-requires c κs = c .lowest .ensures .inside
+without-requires c κs = c .lowest .ensures
 
 mul-with-if : tie.Need-mul-with-if Inv-loop μ-loop
 mul-with-if c = search needs

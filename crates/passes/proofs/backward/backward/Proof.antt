@@ -4,9 +4,9 @@ use Prim.Native.Nat.{_≤_, _-_}
 use mathlib.Core.Path.{_≡_, refl, _∙_}
 use native.Mathlib.Omega.{arith}
 use lib.ListN.{length}
-use Rattle.tables.specs.Table.{tableOf}
+use Rattle.automata.specs.Table.{tableOf}
 use Rattle.models.specs.Stored.{modelWith}
-use Rattle.passes.proofs.SearchInput.{inputOf}
+use Rattle.levels.proofs.SearchInput.{inputOf}
 use Rattle.passes.proofs.Keeping.{Backed, backed-none, backed-useful, listed-small, listed-state, backed-turn, settled-size, backed-end}
 use Rattle.passes.proofs.backward.backward.Statement.{statement}
 use borrow.Author.Needs.{needs}

@@ -4,8 +4,8 @@ use lib.ListN.{getD}
 use native.Mathlib.Omega.{arith}
 use Rattle.bits.proofs.Sayings.{says-T}
 use Rattle.bits.proofs.Members.{members-bits}
-use Rattle.passes.proofs.UsedLetters.{has-letter}
-use Rattle.passes.proofs.Rounding.{members-below}
+use Rattle.levels.proofs.UsedLetters.{has-letter}
+use Rattle.levels.proofs.Rounding.{members-below}
 use Rattle.passes.proofs.Keeping.{keeps-last, keeps-early}
 use Rattle.passes.proofs.backward.keeps.Statement.{statement}
 use borrow.Author.Needs.{needs}

@@ -4,7 +4,7 @@ use Prim.Native.Nat.{_+_, _*_}
 use lib.ListN.{getD}
 use Rattle.bits.proofs.Sayings.{says-map}
 use Rattle.bits.proofs.Resting.{meet-says}
-use Rattle.tables.specs.Table.{tableStates}
+use Rattle.automata.specs.Table.{tableStates}
 use Rattle.passes.proofs.backward.meets.Statement.{statement}
 use borrow.Author.Needs.{needs}
 use Rattle.passes.proofs.backward.meets.Tie as tie

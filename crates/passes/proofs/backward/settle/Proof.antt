@@ -5,7 +5,7 @@ use mathlib.Core.Path.{ap}
 use native.Mathlib.Omega.{arith}
 use lib.ListN.{set, getD}
 use borrow.Author.Needs.{needs}
-use Rattle.tables.specs.Table.{tableStates}
+use Rattle.automata.specs.Table.{tableStates}
 use Rattle.passes.specs.inner.Uses.{usefulAt}
 use Rattle.passes.proofs.backward.settle.Statement.{statement}
 use Rattle.passes.proofs.backward.settle.Tie as tie

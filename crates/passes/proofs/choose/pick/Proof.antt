@@ -5,15 +5,15 @@ use mathlib.Core.Path.{refl}
 use native.Mathlib.Omega.{arith}
 use lib.ListN.{length}
 use Rattle.bits.proofs.Members.{members-bits}
-use Rattle.tables.specs.Table.{tableOf}
+use Rattle.automata.specs.Table.{tableOf}
 use Rattle.tables.specs.Beyond.{Beyond}
 use Rattle.tables.proofs.promise.Beyonds.{beyond-none, beyond-next}
 use Rattle.models.specs.Stored.{modelWith}
 use Rattle.passes.specs.inner.Uses.{flat}
-use Rattle.passes.proofs.UsedLetters.{has-letter}
-use Rattle.passes.proofs.SearchInput.{inputOf}
+use Rattle.levels.proofs.UsedLetters.{has-letter}
+use Rattle.levels.proofs.SearchInput.{inputOf}
 use Rattle.passes.proofs.Picking.{Written, write-start, write-end, mask-some, state-below, write-turn}
-use Rattle.passes.proofs.Rounding.{members-below}
+use Rattle.levels.proofs.Rounding.{members-below}
 use Rattle.passes.proofs.Choosing.{onward-members, choices-members}
 use Rattle.passes.proofs.choose.pick.Statement.{statement}
 use borrow.Author.Needs.{needs}

@@ -1,7 +1,7 @@
 -- `search::inner::passes` meets its contract. The three passes, one after the other.
 -- Assumes nothing.
 use native.Mathlib.Omega.{arith}
-use Rattle.passes.proofs.SearchInput.{inputOf}
+use Rattle.levels.proofs.SearchInput.{inputOf}
 use Rattle.passes.proofs.Finding.{answers-nothing, level-small, pickable, answers-found}
 use Rattle.passes.proofs.inner.passes.Statement.{statement}
 use Rattle.passes.proofs.inner.passes.Tie as tie

@@ -2,10 +2,10 @@
 -- Assumes nothing.
 use mathlib.Core.Path.{sym, _∙_}
 use native.Mathlib.Omega.{arith}
-use Rattle.tables.specs.Table.{tableEntries}
+use Rattle.automata.specs.Table.{tableEntries}
 use Rattle.tables.proofs.promise.Beyonds.{beyond-then}
 use Rattle.steps.proofs.Adding.{zeros-at}
-use Rattle.passes.specs.inner.Passes.{usefulSets}
+use Rattle.levels.specs.inner.Passes.{usefulSets}
 use Rattle.passes.proofs.Finding.{cleared-again, kept-size}
 use Rattle.passes.proofs.inner.search_table.Statement.{statement}
 use borrow.Author.Needs.{needs}

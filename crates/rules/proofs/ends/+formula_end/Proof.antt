@@ -3,7 +3,7 @@ use Prim.Native.Nat.{ℕ, _+_, _<_, _-_}
 use mathlib.Core.Path.{subst, sym, ap, _∙_}
 use native.Mathlib.Omega.{arith}
 use lib.ListN.{length}
-use Rattle.rules.specs.declared.kinds.Kind.the-variants.{OfFormula}
+use Rattle.definitions.specs.declared.kinds.Kind.the-variants.{OfFormula}
 use borrow.Author.Needs.{needs}
 use Rattle.rules.specs.Reading.{formula}
 use Rattle.rules.specs.Walks.{FormulaRead}
@@ -15,7 +15,7 @@ use Rattle.rules.proofs.ends.formula_end.Reads as formula-end
 use Rattle.rules.proofs.ends.formula_end.Kinds as formula-end-kinds
 use Rattle.rules.proofs.ends.+formula_end.Lts-formula_end as formula-end-lts
 use Rattle.rules.proofs.ends.body_end.Reads as body-end-reads
-use Rattle.rules.proofs.kinds.kind_of.Reads as kind-of-reads
+use Rattle.definitions.proofs.kinds.kind_of.Reads as kind-of-reads
 use Rattle.rules.proofs.ends.+formula_end.{statement}
 use Rattle.rules.proofs.ends.+formula_end.Tie.{close}
 

@@ -3,7 +3,7 @@ use Prim.Native.Nat.{ℕ, _+_, _<_, _-_}
 use mathlib.Core.Path.{subst, sym, ap, _∙_}
 use native.Mathlib.Omega.{arith}
 use lib.ListN.{length}
-use Rattle.rules.specs.declared.kinds.Kind.the-variants.{OfRule}
+use Rattle.definitions.specs.declared.kinds.Kind.the-variants.{OfRule}
 use Rattle.rules.specs.Reading.{rule}
 use Rattle.rules.specs.Walks.{CountsRead, RuleRead}
 use Rattle.rules.proofs.Scan.{ended, rule-ends}
@@ -17,7 +17,7 @@ use Rattle.rules.proofs.ends.rule_end.Kinds as rule-end-kinds
 use Rattle.rules.proofs.ends.+rule_end.Lts-rule_end as rule-end-lts
 use Rattle.rules.proofs.ends.counts_end.Reads as counts-end-reads
 use Rattle.rules.proofs.ends.formula_end.Reads as formula-end-reads
-use Rattle.rules.proofs.kinds.kind_of.Reads as kind-of-reads
+use Rattle.definitions.proofs.kinds.kind_of.Reads as kind-of-reads
 use Rattle.rules.proofs.ends.+rule_end.{statement}
 use Rattle.rules.proofs.ends.+rule_end.Tie.{close}
 

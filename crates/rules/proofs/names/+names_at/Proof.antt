@@ -4,9 +4,9 @@ use mathlib.Core.Logic.{⊎-elim}
 use mathlib.Core.Path.{_≡_, sym, ap, _∙_}
 use native.Mathlib.Omega.{arith}
 use lib.ListN.{length, getD}
-use Rattle.rules.specs.declared.kinds.FormulaKind.the-variants.{Proposition, Truth, Falsity, Not, Join}
-use Rattle.rules.specs.declared.kinds.Kind.the-variants.{OfFormula}
-use Rattle.rules.specs.Kinds.{kindOf}
+use Rattle.definitions.specs.declared.kinds.FormulaKind.the-variants.{Proposition, Truth, Falsity, Not, Join}
+use Rattle.definitions.specs.declared.kinds.Kind.the-variants.{OfFormula}
+use Rattle.definitions.specs.Kinds.{kindOf}
 use Rattle.rules.proofs.Walks.{formula-here, is-formula, good-body, good-neg, good-left, good-right}
 use Rattle.rules.proofs.Naming.{n-prop, n-yea, n-nay, n-neg, n-join}
 use borrow.Author.Needs.{needs}
@@ -16,7 +16,7 @@ use Rattle.rules.proofs.names.names_at.Reads as names-at
 use Rattle.rules.proofs.names.names_at.Kinds as names-at-kinds
 use Rattle.rules.proofs.names.+names_at.Lts-names_at as names-at-lts
 use Rattle.bits.proofs.with.Reads as with-reads
-use Rattle.rules.proofs.kinds.kind_of.Reads as kind-of-reads
+use Rattle.definitions.proofs.kinds.kind_of.Reads as kind-of-reads
 use Rattle.rules.proofs.names.+names_at.{statement}
 use Rattle.rules.proofs.names.+names_at.Tie.{close}
 

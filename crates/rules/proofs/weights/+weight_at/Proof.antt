@@ -3,9 +3,9 @@ use Prim.Native.Nat.{ℕ, _+_, _<_, _-_}
 use mathlib.Core.Path.{_≡_, sym, ap, _∙_}
 use native.Mathlib.Omega.{arith}
 use lib.ListN.{length, getD}
-use Rattle.rules.specs.declared.kinds.RuleKind.the-variants.{Letter, Empty, Two, Again, Counted, Occurs}
-use Rattle.rules.specs.declared.kinds.Kind.the-variants.{OfFormula, OfRule, Unknown}
-use Rattle.rules.specs.Kinds.{kindOf}
+use Rattle.definitions.specs.declared.kinds.RuleKind.the-variants.{Letter, Empty, Two, Again, Counted, Occurs}
+use Rattle.definitions.specs.declared.kinds.Kind.the-variants.{OfFormula, OfRule, Unknown}
+use Rattle.definitions.specs.Kinds.{kindOf}
 use Rattle.rules.proofs.Walks.{rule-here, not-unknown, not-formula, good-letter, good-again, good-first, good-second, has-counts, good-counted, occurs-counts, good-occurs}
 use Rattle.rules.proofs.Weighing.{w-letter, w-empty, w-again, w-two, w-counted, w-occurs, capped-small}
 use borrow.Author.Needs.{needs}
@@ -15,8 +15,8 @@ use borrow.Fn.PlainCycle.{Measures, is, falls, and}
 use Rattle.rules.proofs.weights.weight_at.Reads as weight-at
 use Rattle.rules.proofs.weights.weight_at.Kinds as weight-at-kinds
 use Rattle.rules.proofs.weights.+weight_at.Lts-weight_at as weight-at-lts
-use Rattle.rules.proofs.counts.counts_at.Reads as counts-at-reads
-use Rattle.rules.proofs.kinds.kind_of.Reads as kind-of-reads
+use Rattle.definitions.proofs.counts.counts_at.Reads as counts-at-reads
+use Rattle.definitions.proofs.kinds.kind_of.Reads as kind-of-reads
 use Rattle.rules.proofs.names.names_at.Reads as names-at-reads
 use Rattle.rules.proofs.weights.weight_of_pair.Reads as weight-of-pair-reads
 use Rattle.rules.proofs.weights.weight_of_row.Reads as weight-of-row-reads

@@ -22,7 +22,7 @@ side-of-requires : tie.Need-side-of-requires Inv-loop μ-loop
 side-of-requires c κs = (omega arith, omega arith, c .lowest .ensures .inside)
 
 without-requires : tie.Need-without-requires Inv-loop μ-loop
-without-requires c κs = c .before .lowest .ensures .inside
+without-requires c κs = c .before .lowest .ensures
 
 loop-less : tie.Need-loop-less Inv-loop μ-loop
 loop-less c =

@@ -3,7 +3,7 @@ use Prim.Native.Nat.{_-_, _≤_}
 use mathlib.Core.Path.{_≡_, refl}
 use native.Mathlib.Omega.{arith}
 use lib.ListN.{length}
-use Rattle.tables.specs.Table.{tableStates}
+use Rattle.automata.specs.Table.{tableStates}
 use Rattle.trims.specs.inner.Lists.{Lists}
 use Rattle.trims.proofs.Listing.{lists-none, lists-few}
 use Rattle.trims.proofs.list.list.Statement.{statement}

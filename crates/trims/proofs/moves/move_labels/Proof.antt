@@ -3,8 +3,8 @@ use Prim.Native.Nat.{_-_, _≤_}
 use mathlib.Core.Path.{_≡_, refl}
 use native.Mathlib.Omega.{arith}
 use lib.ListN.{length}
-use Rattle.tables.specs.inner.Cells.{Put}
-use Rattle.tables.proofs.blocks.Puts.{put-none, put-down, put-as}
+use Rattle.automata.specs.inner.Cells.{Put}
+use Rattle.automata.proofs.Puts.{put-none, put-down, put-as}
 use Rattle.trims.specs.inner.Moves.{movedLabel}
 use Rattle.trims.proofs.Moving.{moved-rows}
 use Rattle.trims.proofs.moves.move_labels.Statement.{statement}

@@ -1,0 +1,10 @@
+pub mod language
+pub mod TableOf
+pub mod Serving
+pub mod Shaping
+pub mod Labels
+pub mod Places
+pub mod Ends
+pub mod Puts
+pub mod FinalSets
+pub mod RowEnds

@@ -1,0 +1,4 @@
+pub mod Cells
+pub mod Block
+pub mod Sets
+pub mod Shapes

@@ -1,0 +1,13 @@
+pub mod Placing
+pub mod Building
+pub mod Crossings
+pub mod Choices
+pub mod Products
+pub mod Turns
+pub mod Singles
+pub mod Withins
+pub mod Linking
+pub mod Overlapping
+pub mod Pairing
+pub mod Rowing
+pub mod Tallies

@@ -1,0 +1,4 @@
+pub mod Maps
+pub mod PartsInARow
+pub mod Deciding
+pub mod Held

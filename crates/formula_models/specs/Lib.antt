@@ -1,0 +1,5 @@
+pub mod Meaning
+pub mod Bytes
+pub mod Refusals
+pub mod Answer
+pub mod inner

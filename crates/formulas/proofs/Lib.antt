@@ -1,0 +1,2 @@
+pub mod Evaluating
+pub mod Labelling

@@ -1,0 +1,11 @@
+pub mod Numbers
+pub mod Rights
+pub mod Picking
+pub mod Counting
+pub mod Complete
+pub mod Lengths
+pub mod Standing
+pub mod Passing
+pub mod Spelling
+pub mod CountsAt
+pub mod AfterOperand

@@ -1,0 +1,4 @@
+pub mod Layouts
+pub mod Refusals
+pub mod Answer
+pub mod inner

@@ -1,0 +1,16 @@
+pub mod Way
+pub mod Level
+pub mod SearchInput
+pub mod Tally
+pub mod Useful
+pub mod Pick
+pub mod Steps
+pub mod Rounds
+pub mod Going
+pub mod Answered
+pub mod Places
+pub mod UsedLetters
+pub mod Queueing
+pub mod Waving
+pub mod Rounding
+pub mod Flowing

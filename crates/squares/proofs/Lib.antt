@@ -1,0 +1,4 @@
+pub mod Digits
+pub mod Mixing
+pub mod Rounding
+pub mod Turning

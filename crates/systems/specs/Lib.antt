@@ -1,0 +1,6 @@
+pub mod Kinds
+pub mod Reading
+pub mod Spelling
+pub mod Refusals
+pub mod Answer
+pub mod inner

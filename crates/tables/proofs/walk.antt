@@ -1,3 +1,0 @@
-pub mod Shaping
-pub mod Placing
-pub mod Building

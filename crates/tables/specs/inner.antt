@@ -1,5 +1,0 @@
-pub mod Cells
-pub mod Block
-pub mod Sets
-pub mod Shapes
-pub mod Building

@@ -1,5 +1,0 @@
-pub mod Reading
-pub mod Values
-pub mod Wide
-pub mod Places
-pub mod Walks

@@ -1,0 +1,10 @@
+//! The built program, run as a user runs it.
+
+mod names;
+mod pictures;
+mod readme;
+mod shell;
+mod streams;
+mod texts;
+mod thousand;
+mod transcripts;
