@@ -67,11 +67,11 @@ macro_rules! refusals {
 
 refusals! {
     RuleTooLong = 1: "the rule has more than 255 bytes";
-    RuleEnded = 2: "the rule or the formulas end where another byte is needed";
+    RuleEnded = 2: "the bytes end where another is needed";
     UnknownKind = 3: "no kind of rule or formula";
     WrongSort = 4: "a kind out of its place, as a formula for a rule or a rule for a formula";
     UnknownProposition = 5: "a proposition above 5";
-    BytesAfterRule = 6: "bytes after the complete rule or formulas";
+    BytesAfterRule = 6: "bytes after what is complete";
     TooHeavy = 7: "the rule weighs more than 64";
     BadCounts = 8: "counts of which the first exceeds the second, or the second 15";
     FormulasTooLong = 9: "the formulas have more than 255 bytes";

@@ -138,6 +138,22 @@ fn exchanged_fields_and_parameters_are_seen() {
             "table: &mut [u64], finals: u64, weight: u64",
         ),
         ("text: &[u8], out: &mut [u8]", "text: &[u8], out: &[u8]"),
+        (
+            "gc_rows_of(table: &[u64], rows: &mut [u64])",
+            "gc_rows_of(rows: &mut [u64], table: &[u64])",
+        ),
+        (
+            "gc_table_of(rows: &[u64], table: &mut [u64])",
+            "gc_table_of(table: &[u64], rows: &mut [u64])",
+        ),
+        (
+            "gc_formula_model(formulas: &[u8], model: &mut [u8]) -> GcWritten",
+            "gc_formula_model(formulas: &[u8], model: &mut [u8]) -> GcDone",
+        ),
+        (
+            "gc_follow_rows(rows: &[u64], finals: u64, letters: &[u8])",
+            "gc_follow_rows(finals: u64, rows: &[u64], letters: &[u8])",
+        ),
     ] {
         assert!(source.contains(ours), "{ours}");
         let changed = interface(&source.replace(ours, exchanged));
