@@ -24,13 +24,14 @@ pub fn run(args: &Follow, out: &mut Out) -> Result<Status, End> {
     let names = names(&args.names)?;
     let ready = rule(&args.rule, &names, &args.place)?;
     let table = Table::build(ready.searched.bytes()).map_err(unexpected)?;
-    let mut walker = table.walker();
+    let rows = table.rows();
+    let mut walker = rows.walker();
     let mut lines = Lines::open(args)?;
     tell_first(&walker, None, out)?;
     while let Some(line) = lines.next()? {
         if let Some(letter) = taken(&line, &names)? {
             let before = walker.first_match();
-            walker.step(&table, letter).map_err(|refusal| {
+            walker.step(&rows, letter).map_err(|refusal| {
                 line.trouble(
                     0,
                     line.text.len(),
