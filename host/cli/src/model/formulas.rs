@@ -122,11 +122,14 @@ fn explain(refusal: Refusal, initial: &Stated, step: &Stated) -> Trouble {
     }
 }
 
-/// The length of the first word or other character. Letters of all kinds hang together, so that no part of a word is
-/// taken for a name.
+/// Letters of all kinds hang together, so that no part of a word is taken for a name.
+fn in_formula_words(c: char) -> bool {
+    c.is_alphanumeric() || in_words(c)
+}
+
+/// The length of the first word or other character.
 fn length(rest: &str) -> usize {
-    let in_word = |c: char| c.is_alphanumeric() || in_words(c);
-    match rest.find(|c| !in_word(c)).unwrap_or(rest.len()) {
+    match rest.find(|c| !in_formula_words(c)).unwrap_or(rest.len()) {
         0 => rest.chars().next().map_or(0, char::len_utf8),
         word => word,
     }
@@ -169,7 +172,7 @@ impl<'a> Reader<'a, '_> {
             "true" => self.stated.push(TRUE_KIND, part),
             "false" => self.stated.push(FALSE_KIND, part),
             NEXT_WORD => self.take_next(part).map_err(|trouble| trouble.hint(ONE))?,
-            word if word.starts_with(in_words) || word.starts_with(char::is_alphabetic) => {
+            word if word.starts_with(in_formula_words) => {
                 self.take_proposition(PROPOSITION_KIND, part, part)?;
             }
             _ => return Err(self.no_formula(Some(part))),
@@ -198,8 +201,7 @@ impl<'a> Reader<'a, '_> {
     ) -> Result<(), Trouble> {
         let Some(number) = self.names.find_proposition(name.text) else {
             let line = &self.stated.line;
-            let is_word = length(name.text) > 1 || name.text.starts_with(char::is_alphanumeric);
-            let trouble = match is_word {
+            let trouble = match name.text.starts_with(in_formula_words) {
                 true => line.trouble(name, format!("no proposition is called `{}`", name.text)),
                 false => line.unexpected(Some(name)),
             };
