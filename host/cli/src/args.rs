@@ -22,6 +22,12 @@ A model as text:
 A state has a name or its number, perhaps `initial`, what holds in it, and where it goes. At most 64 states and 6
 propositions. A file that ends in .gcm, or any with --bytes, is read as a model's bytes.
 
+Or two formulas in the place of the states; each letter is then a state, and is shown as what holds in it:
+    propositions written verified
+    initial: (!written & !verified)
+    step: ((!written | next(written)) & (written | !next(verified)))
+A formula is as in rules, and may have blanks; next(p0) is p0 in the next state, and stands in `step:` alone.
+
 Rules, with no blanks inside:
     f                  one event in which the formula f holds: p0, a name, true, false, !f, (f&g), (f|g)
     [*0]               no event

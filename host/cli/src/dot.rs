@@ -4,6 +4,7 @@ use crate::formula::formula;
 use crate::model::Model;
 use crate::names::Names;
 use crate::verdict::Run;
+use crate::warnings::Surveyed;
 use gongcollar::{Table, STATES};
 use std::collections::BTreeMap;
 
@@ -19,14 +20,20 @@ const FAINT: &str = "#a0a0a0";
 const NUMBERS: usize = 6;
 
 /// A picture of a model: its states with what holds in them; those that no run reaches are faint, dead ends dashed.
-/// With a run, its states and ways are coloured, and the ways numbered in its order.
-pub fn model(model: &Model, reached: u64, title: &str, run: Option<&Run>) -> String {
-    let mut text = beginning("model", title);
-    let (states, names) = (model.states(), model.names());
+/// With a run, its states and ways are coloured, and the ways numbered in its order. Of a model by formulas a part is
+/// drawn that says the rest, and the title tells which.
+pub fn model(model: &Model, surveyed: &Surveyed, title: &str, run: Option<&Run>) -> String {
+    let (states, names, reached) = (model.states(), model.names(), surveyed.reached());
+    let (drawn, note) = drawn(model, surveyed, run);
+    let mut text = beginning("model", &[title, &note]);
     let colours = run.map(Colours::new).unwrap_or_default();
-    for (at, state) in states.iter().enumerate() {
+    let is_drawn = |at: &usize| drawn >> at & 1 == 1;
+    for (at, state) in states.iter().enumerate().filter(|(at, _)| is_drawn(at)) {
         let holds = names.members(state.letter.into()).join(" ");
-        let label = format!("{}\\n{}", quoted(&names.state(at)), quoted(&holds));
+        let label = match names.are_letters() {
+            true => quoted(&names.state(at)),
+            false => format!("{}\\n{}", quoted(&names.state(at)), quoted(&holds)),
+        };
         let look = look(at, model.lasting(), reached, &colours);
         text += &format!("    s{at} [label=\"{label}\"{look}];\n");
         if state.initial {
@@ -34,8 +41,8 @@ pub fn model(model: &Model, reached: u64, title: &str, run: Option<&Run>) -> Str
                 &format!("    i{at} [shape=point, width=0.08, fillcolor=\"black\", label=\"\"];\n    i{at} -> s{at};\n");
         }
     }
-    for (from, state) in states.iter().enumerate() {
-        for to in (0..states.len()).filter(|to| state.successors >> to & 1 == 1) {
+    for (from, state) in states.iter().enumerate().filter(|(at, _)| is_drawn(at)) {
+        for to in (0..states.len()).filter(|to| state.successors & drawn & 1 << to != 0) {
             let both = |set: u64| set >> from & set >> to & 1 == 1;
             text += &format!(
                 "    s{from} -> s{to}{};\n",
@@ -44,6 +51,35 @@ pub fn model(model: &Model, reached: u64, title: &str, run: Option<&Run>) -> Str
         }
     }
     text + "}\n"
+}
+
+/// The states that are drawn, and what is said of it. Of a model by formulas: those that a run enters, and of those that
+/// differ in free propositions alone the one with these off, unless the run has them on.
+fn drawn(model: &Model, surveyed: &Surveyed, run: Option<&Run>) -> (u64, String) {
+    let Some(named) = model.named() else {
+        return (model.all(), String::new());
+    };
+    let letters = run.map_or(&[][..], |run| &run.letters);
+    let seen = letters
+        .iter()
+        .fold(named, |set, &letter| set | u64::from(letter));
+    let drawn = surveyed.entered() & model.standing_for_all(seen);
+    let off = model.names().members(!seen).join(", ");
+    let off = match off.is_empty() {
+        true => off,
+        false => format!(" with {off} off"),
+    };
+    let states = match (drawn & surveyed.reached()).count_ones() {
+        0 => "no state".to_string(),
+        1 => "the 1 state".to_string(),
+        count => format!("the {count} states"),
+    };
+    let ends = match drawn & !surveyed.reached() {
+        0 => "",
+        _ => "; dashed: dead ends",
+    };
+    let note = format!("drawn: {states}{off} that runs reach{ends}");
+    (drawn, note)
 }
 
 /// Which states and ways a run goes over; what is matched wins.
@@ -101,7 +137,7 @@ fn way(from: usize, to: usize, colours: &Colours, reached: bool) -> String {
 
 /// A picture of a rule's table: a double line around finals, a formula on each way.
 pub fn table(table: &Table, names: &Names, title: &str) -> String {
-    let mut text = beginning("table", title);
+    let mut text = beginning("table", &[title]);
     let weight = (table.weight() as usize).min(STATES);
     text +=
         "    start [shape=point, width=0.08, fillcolor=\"black\", label=\"\"];\n    start -> q0;\n";
@@ -122,12 +158,15 @@ pub fn table(table: &Table, names: &Names, title: &str) -> String {
     text + "}\n"
 }
 
-fn beginning(name: &str, title: &str) -> String {
+/// The beginning of a picture, with the lines of its title that are not empty.
+fn beginning(name: &str, title: &[&str]) -> String {
+    let title = title.iter().filter(|line| !line.is_empty());
+    let title: Vec<String> = title.map(|line| quoted(line)).collect();
     format!(
         "digraph {name} {{\n    rankdir=LR;\n    label=\"{}\";\n    fontname=\"Helvetica\";\n    \
          node [shape=box, style=\"rounded,filled\", fillcolor=\"white\", fontname=\"Helvetica\"];\n    \
          edge [fontname=\"Helvetica\"];\n",
-        quoted(title)
+        title.join("\\n")
     )
 }
 

@@ -4,12 +4,29 @@ use gongcollar::STATES;
 
 /// How many propositions there are.
 pub const PROPOSITIONS: usize = 6;
+/// How many states are told where each letter is one.
+const SOME: usize = 6;
 
 /// The names of a model. What has none is called by its number: `p3`, or `3` for a state.
 #[derive(Debug, Clone, Default, PartialEq, Eq)]
 pub struct Names {
     propositions: Vec<String>,
-    states: Vec<Option<String>>,
+    states: Callings,
+}
+
+/// What the states of a model are called.
+#[derive(Debug, Clone, PartialEq, Eq)]
+enum Callings {
+    /// By a name, those that have one.
+    Names(Vec<Option<String>>),
+    /// By what holds in them: each letter is a state.
+    Letters,
+}
+
+impl Default for Callings {
+    fn default() -> Callings {
+        Callings::Names(Vec::new())
+    }
 }
 
 /// What every proposition is called too.
@@ -49,7 +66,15 @@ impl Names {
     pub fn new(propositions: Vec<String>, states: Vec<Option<String>>) -> Names {
         Names {
             propositions,
-            states,
+            states: Callings::Names(states),
+        }
+    }
+
+    /// Names of propositions, for a model in which each letter is a state and is called so: `{expire thin}`.
+    pub fn by_letter(propositions: Vec<String>) -> Names {
+        Names {
+            propositions,
+            states: Callings::Letters,
         }
     }
 
@@ -63,6 +88,15 @@ impl Names {
 
     /// What a state is called.
     pub fn state(&self, state: usize) -> String {
+        match self.states {
+            // A state is below 64.
+            Callings::Letters => self.letter(state as u8),
+            Callings::Names(_) => self.state_word(state),
+        }
+    }
+
+    /// The word for a state in a model's text: its name, or its number.
+    pub fn state_word(&self, state: usize) -> String {
         match self.state_name(state) {
             Some(name) => name.to_string(),
             None => state.to_string(),
@@ -71,7 +105,31 @@ impl Names {
 
     /// The state's name, if it has one.
     pub fn state_name(&self, state: usize) -> Option<&str> {
-        self.states.get(state).and_then(|name| name.as_deref())
+        match &self.states {
+            Callings::Letters => None,
+            Callings::Names(names) => names.get(state).and_then(|name| name.as_deref()),
+        }
+    }
+
+    /// Whether each letter is a state, and is called so.
+    pub fn are_letters(&self) -> bool {
+        self.states == Callings::Letters
+    }
+
+    /// A state of a run: what it is called, and what holds in it, once if that is the same.
+    pub fn state_with_letter(&self, state: usize, letter: u8) -> String {
+        match self.states {
+            Callings::Letters => self.state(state),
+            Callings::Names(_) => format!("{} {}", self.state(state), self.letter(letter)),
+        }
+    }
+
+    /// A state where its number alone would not say that it is one.
+    pub fn state_in_words(&self, state: usize) -> String {
+        match (&self.states, self.state_name(state)) {
+            (Callings::Names(_), None) => format!("state {state}"),
+            _ => self.state(state),
+        }
     }
 
     /// The names that were given to propositions, the first for p0.
@@ -109,6 +167,22 @@ impl Names {
             .filter(|state| set >> state & 1 == 1)
             .map(|state| self.state(state))
             .collect()
+    }
+
+    /// The same, where there may be many: the first of them, and how many others there are.
+    pub fn some_states(&self, set: u64, called: impl Fn(usize) -> String) -> String {
+        let members: Vec<usize> = (0..STATES).filter(|state| set >> state & 1 == 1).collect();
+        let some = match self.states {
+            Callings::Letters => members.len().min(SOME),
+            Callings::Names(_) => members.len(),
+        };
+        let mut said: Vec<String> = members[..some].iter().map(|&state| called(state)).collect();
+        match members.len() - some {
+            0 => {}
+            1 => said.push("and 1 other".into()),
+            others => said.push(format!("and {others} others")),
+        }
+        said.join(", ")
     }
 
     /// What can be written for a proposition, in words.

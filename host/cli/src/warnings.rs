@@ -54,17 +54,35 @@ impl<'a> Surveyed<'a> {
         self.reached
     }
 
+    /// The states that runs reach, and those that they would enter if they were no dead ends.
+    pub fn entered(&self) -> u64 {
+        let states = self.model.states();
+        let reached = (0..states.len()).filter(|at| self.reached >> at & 1 == 1);
+        let first = self.reached | self.model.initial();
+        reached.fold(first, |set, at| set | states[at].successors)
+    }
+
+    /// The dead ends that are told: of a model by formulas, which has every letter for a state, those alone that a run
+    /// would enter.
+    fn dropped(&self) -> u64 {
+        let dropped = self.model.all() & !self.model.lasting();
+        match self.model.named() {
+            Some(_) => dropped & self.entered() & self.model.standing_for_all(0),
+            None => dropped,
+        }
+    }
+
     /// Of the model.
     pub fn of_model(&self) -> Vec<Warning> {
         let (model, names) = (self.model, self.model.names());
         let mut warnings = Vec::new();
-        let dropped = model.all() & !model.lasting();
+        let dropped = self.dropped();
         if dropped != 0 {
             warnings.push(Warning {
                 kind: "dead-ends",
                 says: format!(
                     "dropped as dead ends, since no endless run leaves them: {}",
-                    names.states(dropped).join(", ")
+                    names.some_states(dropped, |state| names.state(state))
                 ),
             });
         }
@@ -76,7 +94,8 @@ impl<'a> Surveyed<'a> {
             return warnings;
         }
         let unreached = model.lasting() & !self.reached;
-        if unreached != 0 {
+        // What formulas keep runs from is what they are for.
+        if unreached != 0 && model.named().is_none() {
             warnings.push(Warning {
                 kind: "unreached",
                 says: format!("no run reaches: {}", names.states(unreached).join(", ")),
@@ -163,17 +182,13 @@ impl<'a> Surveyed<'a> {
         let names = self.model.names();
         let states = self.model.states();
         let initial = self.model.initial() & self.model.lasting();
-        let with_letter =
-            |at: &usize| format!("{} {}", names.state(*at), names.letter(states[*at].letter));
-        let initial: Vec<String> = (0..states.len())
-            .filter(|at| initial >> at & 1 == 1)
-            .map(|at| with_letter(&at))
-            .collect();
+        let initial = initial & self.model.standing_for_all(ready.rule.uses().bits());
+        let with_letter = |at: usize| names.state_with_letter(at, states[at].letter);
         Ok(format!(
             "no initial state has a first letter that fits: it begins with `{}`, and runs with {}; \
              --anywhere looks for it from any state on",
             formula(first, names),
-            initial.join(", ")
+            names.some_states(initial, with_letter)
         ))
     }
 }

@@ -163,13 +163,10 @@ fn told(run: &Run, model: &Model) -> String {
     let names = model.names();
     let states = run.states.iter().zip(&run.letters);
     let states: Vec<String> = states
-        .map(|(&state, &letter)| format!("{} {}", names.state(state), names.letter(letter)))
+        .map(|(&state, &letter)| names.state_with_letter(state, letter))
         .collect();
     let last = run.states.len();
-    let place = |at: usize| match names.state_name(run.states[at - 1]) {
-        Some(name) => format!("{at} ({name})"),
-        None => format!("{at} (state {})", run.states[at - 1]),
-    };
+    let place = |at: usize| format!("{at} ({})", names.state_in_words(run.states[at - 1]));
     let matched = match run.before < last {
         true => format!("matched from {} to {}", place(run.before + 1), place(last)),
         false => format!("matched nothing after {}", place(last)),

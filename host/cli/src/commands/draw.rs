@@ -24,6 +24,6 @@ pub fn run(args: &Draw, out: &mut Out) -> Result<Status, End> {
         Some(name) => format!("{name}: {}: {said}", typed.text),
         None => format!("{}: {said}", typed.text),
     };
-    out.text(&dot::model(&model, surveyed.reached(), &title, run))?;
+    out.text(&dot::model(&model, &surveyed, &title, run))?;
     Ok(Status::Nothing)
 }

@@ -16,7 +16,7 @@ pub fn run(args: &ShowModel, out: &mut Out) -> Result<Status, End> {
         out.bytes(model.bytes())?;
     } else if args.dot {
         let surveyed = Surveyed::new(&model, &mut Workspace::new())?;
-        out.text(&dot::model(&model, surveyed.reached(), "", None))?;
+        out.text(&dot::model(&model, &surveyed, "", None))?;
     } else {
         out.text(&text(&model))?;
     }

@@ -1,6 +1,9 @@
 //! Models: from files to the bytes that the proved calls read, with the names that people use.
 
 mod decoder;
+mod evaluator;
+mod formulas;
+mod lines;
 mod reader;
 mod second;
 mod writer;
@@ -26,6 +29,7 @@ pub struct Model {
     names: Names,
     states: usize,
     lasting: u64,
+    named: Option<u64>,
 }
 
 impl Model {
@@ -38,8 +42,12 @@ impl Model {
                 "{source}: what was made of the text is not what it says: {difference}"
             )));
         }
-        Model::of(read.bytes, read.names).map_err(|refusal| {
+        let model = Model::of(read.bytes, read.names).map_err(|refusal| {
             Trouble::slip(format!("{source}: the model made of the text is {refusal}"))
+        })?;
+        Ok(Model {
+            named: read.named,
+            ..model
         })
     }
 
@@ -57,6 +65,7 @@ impl Model {
             // At most 64.
             states: lasting.states as usize,
             lasting: lasting.set,
+            named: None,
         })
     }
 
@@ -68,6 +77,23 @@ impl Model {
     /// What propositions and states are called.
     pub fn names(&self) -> &Names {
         &self.names
+    }
+
+    /// The set of the propositions that its formulas name, if formulas say it. The others are free.
+    pub fn named(&self) -> Option<u64> {
+        self.named
+    }
+
+    /// The states in which nothing holds but these propositions and those that its formulas name: they stand for all,
+    /// since what goes for one goes for it with the others on. All states, if the model was drawn.
+    pub fn standing_for_all(&self, propositions: u64) -> u64 {
+        let Some(named) = self.named else {
+            return self.all();
+        };
+        let within = |&state: &usize| state as u64 & !(named | propositions) == 0;
+        (0..self.len())
+            .filter(within)
+            .fold(0, |set, state| set | 1 << state)
     }
 
     /// The number of states.

@@ -6,16 +6,26 @@
 //! state busy: thin -> busy done
 //! state done: write -> idle
 //! ```
+//!
+//! Or two formulas in the place of the states:
+//!
+//! ```text
+//! initial: (expire & !thin)
+//! step: (next(thin) | !expire)
+//! ```
 
+use super::formulas::{model_of, Stated, NEXT_WORD};
+use super::lines::{Line, Token};
 use super::{RECORD, STATE_KIND};
 use crate::names::{clash, in_words, is_name, Names, PROPOSITIONS};
-use crate::trouble::{Place, Trouble};
+use crate::trouble::Trouble;
 use gongcollar::STATES;
 
-/// The words with which lines begin, and the one that marks an initial state.
+/// The words with which lines begin; one of them marks an initial state, too.
 pub const PROPOSITIONS_WORD: &str = "propositions";
 pub const STATE_WORD: &str = "state";
 pub const INITIAL_WORD: &str = "initial";
+pub const STEP_WORD: &str = "step";
 
 /// What a text says.
 #[derive(Debug, Clone, PartialEq, Eq)]
@@ -24,91 +34,69 @@ pub struct Read {
     pub bytes: Vec<u8>,
     /// What its propositions and states are called.
     pub names: Names,
+    /// The set of the propositions that the formulas name, if formulas say the model.
+    pub named: Option<u64>,
 }
 
 /// Reads a text.
 pub fn read(source: &str, text: &str) -> Result<Read, Trouble> {
-    let mut drawing = Drawing::default();
+    let mut said = Said::default();
     for (number, line) in text.lines().enumerate() {
         let line = Line::new(source, number + 1, line);
-        drawing.take(&line)?;
+        said.take(&line)?;
     }
-    if drawing.states.is_empty() {
+    match said {
+        Said {
+            initial: Some(initial),
+            step: Some(step),
+            ..
+        } => stated(&initial, &step, said.propositions.given()),
+        Said {
+            initial: None,
+            step: None,
+            ..
+        } => drawn(source, said),
+        Said { initial, .. } => {
+            let missing = initial.map_or(INITIAL_WORD, |_| STEP_WORD);
+            let what = format!("{source}: there is no line `{missing}: FORMULA`");
+            Err(Trouble::new(what).hint(TWO_FORMULAS))
+        }
+    }
+}
+
+const TWO_FORMULAS: &str =
+    "a model by formulas has one line `initial: FORMULA` and one line `step: FORMULA`";
+const NOT_BOTH: &str =
+    "a model has lines for its states, or the two lines `initial:` and `step:`, and not both";
+
+/// The model that two formulas say.
+fn stated(initial: &Stated, step: &Stated, propositions: Vec<String>) -> Result<Read, Trouble> {
+    Ok(Read {
+        bytes: model_of(initial, step)?,
+        names: Names::by_letter(propositions),
+        named: Some(initial.named() | step.named()),
+    })
+}
+
+/// The model that was drawn.
+fn drawn(source: &str, said: Said) -> Result<Read, Trouble> {
+    if said.states.is_empty() {
         return Err(Trouble::new(format!("{source}: there is no state"))
-            .hint("expected a line for each, as `state idle initial: p0 -> idle`"));
+            .hint("expected a line for each, as `state idle initial: p0 -> idle`")
+            .hint("or two formulas, as `initial: p0` and `step: next(p0)`"));
     }
-    drawing.finish()
+    said.finish()
 }
 
-/// A word or a sign of a line.
-#[derive(Debug, Clone, Copy, PartialEq, Eq)]
-struct Token<'a> {
-    text: &'a str,
-    start: usize,
-}
-
-/// One line, of which its comment is no part.
-#[derive(Debug, Clone, Copy)]
-struct Line<'a> {
-    source: &'a str,
-    number: usize,
-    whole: &'a str,
-    said: &'a str,
-}
-
-impl<'a> Line<'a> {
-    fn new(source: &'a str, number: usize, whole: &'a str) -> Line<'a> {
-        let said = whole.split('#').next().unwrap_or(whole).trim_end();
-        Line {
-            source,
-            number,
-            whole,
-            said,
-        }
-    }
-
-    /// Its words and signs.
-    fn tokens(&self) -> Result<Vec<Token<'a>>, Trouble> {
-        let mut tokens = Vec::new();
-        let mut start = 0;
-        while let Some(rest) = self.said.get(start..).filter(|rest| !rest.is_empty()) {
-            let token = Token {
-                text: &rest[..length(rest)],
-                start,
-            };
-            start += token.text.len();
-            match token.text {
-                blank if blank.trim().is_empty() => {}
-                ":" | "->" => tokens.push(token),
-                word if word.starts_with(in_words) => tokens.push(token),
-                other => {
-                    let what = format!("`{other}` has no meaning here");
-                    return Err(self.trouble(token, what).hint(
-                        "expected words of letters a to z, digits and _, and the signs `:` and `->`",
-                    ));
-                }
-            }
-        }
-        Ok(tokens)
-    }
-
-    fn trouble(&self, token: Token, what: impl Into<String>) -> Trouble {
-        let place = Place {
-            source: self.source.into(),
-            line: Some(self.number),
-            text: self.whole.into(),
-            start: token.start,
-            length: token.text.len(),
-        };
-        Trouble::at(place, what)
-    }
-
-    /// Where the line ends.
-    fn end(&self) -> Token<'a> {
-        Token {
-            text: "",
-            start: self.said.len(),
-        }
+/// The words and signs of a line that draws.
+fn words<'a>(line: &Line<'a>) -> Result<Vec<Token<'a>>, Trouble> {
+    let parts = line.parts(0, length);
+    let fits = |part: &&Token| [":", "->"].contains(&part.text) || part.text.starts_with(in_words);
+    match parts.iter().find(|part| !fits(part)) {
+        Some(&other) => Err(line
+            .trouble(other, format!("`{}` has no meaning here", other.text))
+            .hint("expected words of letters a to z, digits and _, and the signs `:` and `->`")),
+        None => Ok(parts),
     }
 }
 
@@ -132,27 +120,94 @@ struct Drawn<'a> {
     successors: Vec<Token<'a>>,
 }
 
-/// What was read so far.
+/// The line that names propositions.
 #[derive(Debug, Default)]
-struct Drawing<'a> {
-    propositions: Option<Vec<String>>,
-    names: Vec<Option<String>>,
-    states: Vec<Drawn<'a>>,
+struct Named<'a> {
+    line: Option<Line<'a>>,
+    words: Vec<Token<'a>>,
 }
 
-impl<'a> Drawing<'a> {
+impl Named<'_> {
+    fn given(&self) -> Vec<String> {
+        self.words.iter().map(|word| word.text.into()).collect()
+    }
+}
+
+/// What was read so far.
+#[derive(Debug, Default)]
+struct Said<'a> {
+    propositions: Named<'a>,
+    names: Vec<Option<String>>,
+    states: Vec<Drawn<'a>>,
+    initial: Option<Stated<'a>>,
+    step: Option<Stated<'a>>,
+}
+
+impl<'a> Said<'a> {
     /// Takes one line. What later kinds of lines there are has its place here.
     fn take(&mut self, line: &Line<'a>) -> Result<(), Trouble> {
-        let tokens = line.tokens()?;
-        let Some((first, rest)) = tokens.split_first() else {
+        let Some(&first) = line.parts(0, length).first() else {
             return Ok(());
         };
         match first.text {
-            PROPOSITIONS_WORD => self.take_propositions(line, *first, rest),
-            STATE_WORD => self.take_state(line, *first, rest),
-            other => Err(line
-                .trouble(*first, format!("`{other}` begins no line of a model"))
-                .hint("expected `propositions` or `state`")),
+            PROPOSITIONS_WORD => self.take_propositions(line, first, &words(line)?[1..]),
+            STATE_WORD => self.take_state(line, first, &words(line)?[1..]),
+            INITIAL_WORD | STEP_WORD => self.take_formula(line, first),
+            other => {
+                words(line)?;
+                Err(line
+                    .trouble(first, format!("`{other}` begins no line of a model"))
+                    .hint("expected `propositions`, `state`, `initial` or `step`"))
+            }
+        }
+    }
+
+    fn take_formula(&mut self, line: &Line<'a>, first: Token<'a>) -> Result<(), Trouble> {
+        if let Some(state) = self.states.first() {
+            return Err(line
+                .trouble(first, "a formula stands beside states")
+                .hint(format!(
+                    "{NOT_BOTH}; the states begin in line {}",
+                    state.line.number
+                )));
+        }
+        let before = match first.text {
+            INITIAL_WORD => &self.initial,
+            _ => &self.step,
+        };
+        if let Some(before) = before {
+            let what = format!("a second line `{}:`", first.text);
+            let hint = format!(
+                "{TWO_FORMULAS}; the other stands in line {}",
+                before.line().number
+            );
+            return Err(line.trouble(first, what).hint(hint));
+        }
+        self.check_next()?;
+        let names = Names::by_letter(self.propositions.given());
+        let stated = Some(Stated::read(line, first, &names)?);
+        match first.text {
+            INITIAL_WORD => self.initial = stated,
+            _ => self.step = stated,
+        }
+        Ok(())
+    }
+
+    /// In formulas `next` is a word of its own.
+    fn check_next(&self) -> Result<(), Trouble> {
+        let Named { line, words } = &self.propositions;
+        let clashes = |word: &&Token| word.text.eq_ignore_ascii_case(NEXT_WORD);
+        match (line, words.iter().find(clashes)) {
+            (Some(line), Some(&word)) => Err(line
+                .trouble(
+                    word,
+                    format!(
+                        "`{}` is a word of formulas, so it cannot name a proposition",
+                        word.text
+                    ),
+                )
+                .hint("expected another name")),
+            _ => Ok(()),
         }
     }
 
@@ -162,22 +217,27 @@ impl<'a> Drawing<'a> {
         first: Token<'a>,
         words: &[Token<'a>],
     ) -> Result<(), Trouble> {
-        if self.propositions.is_some() {
+        if self.propositions.line.is_some() {
             return Err(line.trouble(first, "the propositions were named before"));
         }
         if !self.states.is_empty() {
             let what = "propositions are named before the first state";
             return Err(line.trouble(first, what));
         }
-        let mut names: Vec<String> = Vec::new();
-        for &word in words {
-            self.check_proposition(line, word, &names)?;
-            names.push(word.text.into());
+        if self.initial.is_some() || self.step.is_some() {
+            let what = "propositions are named before the formulas";
+            return Err(line.trouble(first, what));
         }
-        if names.is_empty() {
+        for (at, &word) in words.iter().enumerate() {
+            self.check_proposition(line, word, &words[..at])?;
+        }
+        if words.is_empty() {
             return Err(line.trouble(line.end(), "expected the name of p0, then that of p1"));
         }
-        self.propositions = Some(names);
+        self.propositions = Named {
+            line: Some(*line),
+            words: words.to_vec(),
+        };
         Ok(())
     }
 
@@ -185,7 +245,7 @@ impl<'a> Drawing<'a> {
         &self,
         line: &Line<'a>,
         word: Token<'a>,
-        before: &[String],
+        before: &[Token<'a>],
     ) -> Result<(), Trouble> {
         if before.len() == PROPOSITIONS {
             let what = format!("there are {PROPOSITIONS} propositions, and no more");
@@ -199,7 +259,7 @@ impl<'a> Drawing<'a> {
         if let Some(clash) = clash(word.text, before.len()) {
             return Err(line.trouble(word, clash).hint("expected another name"));
         }
-        if before.iter().any(|name| name == word.text) {
+        if before.iter().any(|name| name.text == word.text) {
             let what = format!("`{}` names two propositions", word.text);
             return Err(line.trouble(word, what));
         }
@@ -212,6 +272,14 @@ impl<'a> Drawing<'a> {
         first: Token<'a>,
         words: &[Token<'a>],
     ) -> Result<(), Trouble> {
+        if let Some(formula) = self.initial.as_ref().or(self.step.as_ref()) {
+            return Err(line
+                .trouble(first, "a state stands beside formulas")
+                .hint(format!(
+                    "{NOT_BOTH}; a formula stands in line {}",
+                    formula.line().number
+                )));
+        }
         if self.states.len() == STATES {
             let what = format!("a model has at most {STATES} states");
             return Err(line.trouble(first, what));
@@ -225,7 +293,7 @@ impl<'a> Drawing<'a> {
             (None, false) => "a name, `initial` or `:`",
         };
         words.needs(":", before_colon)?;
-        let names = Names::new(self.propositions.clone().unwrap_or_default(), Vec::new());
+        let names = Names::new(self.propositions.given(), Vec::new());
         let letter = take_letter(&mut words, &names)?;
         words.needs("->", &format!("{}, or `->`", names.propositions_in_words()))?;
         let successors = take_successors(&mut words)?;
@@ -275,7 +343,8 @@ impl<'a> Drawing<'a> {
         }
         Ok(Read {
             bytes,
-            names: Names::new(self.propositions.unwrap_or_default(), self.names),
+            names: Names::new(self.propositions.given(), self.names),
+            named: None,
         })
     }
 
@@ -350,14 +419,7 @@ impl<'a> Words<'a, '_> {
     }
 
     fn unexpected(&self) -> Trouble {
-        match self.words.get(self.at) {
-            Some(&word) => self
-                .line
-                .trouble(word, format!("`{}` cannot stand here", word.text)),
-            None => self
-                .line
-                .trouble(self.line.end(), "the line ends too early"),
-        }
+        self.line.unexpected(self.words.get(self.at).copied())
     }
 }
 

@@ -1,7 +1,10 @@
 //! The second way: what a text says, word by word, held against the bytes that were made of it.
 //!
-//! Nothing is shared with the reader: lines are cut by their signs, and every bit of the bytes is asked for by itself.
+//! Nothing is shared with the reader: lines are cut by their signs, and every bit of the bytes is asked for by itself. So
+//! it is where formulas say the model: their text is evaluated for each two states, and held against the proved call's
+//! bytes.
 
+use super::evaluator::Formula;
 use super::reader::Read;
 
 /// The first difference between a text that was read and what was made of it.
@@ -9,6 +12,53 @@ pub fn agrees(text: &str, read: &Read) -> Result<(), String> {
     let lines: Vec<Vec<String>> = text.lines().map(words).collect();
     let named = lines.iter().find(|line| first(line) == "propositions");
     let propositions = named.map_or(&[][..], |line| &line[1..]);
+    names_agree(propositions, read)?;
+    match (formula(text, "initial"), formula(text, "step")) {
+        (Some(initial), Some(step)) => formulas_agree([initial, step], propositions, read),
+        (None, None) => states_agree(&lines, propositions, read),
+        _ => Err("one formula".into()),
+    }
+}
+
+fn names_agree(propositions: &[String], read: &Read) -> Result<(), String> {
+    let called = (0..propositions.len()).all(|at| read.names.proposition(at) == propositions[at]);
+    match called && read.names.given().len() == propositions.len() {
+        true => Ok(()),
+        false => Err("the names of the propositions".into()),
+    }
+}
+
+/// What stands behind a word and its colon, which begin a line.
+fn formula<'a>(text: &'a str, word: &str) -> Option<&'a str> {
+    let mut lines = text.lines().filter_map(|line| {
+        let said = &line[..line.find('#').unwrap_or(line.len())];
+        let (head, formula) = said.split_once(':')?;
+        (head.trim() == word).then_some(formula)
+    });
+    lines.next().filter(|_| lines.next().is_none())
+}
+
+fn formulas_agree(texts: [&str; 2], propositions: &[String], read: &Read) -> Result<(), String> {
+    let cut = |text: &str| Formula::cut(text, propositions).ok_or("a word of a formula");
+    let (initial, step) = (cut(texts[0])?, cut(texts[1])?);
+    if read.bytes.len() != 704 || !read.names.are_letters() {
+        return Err("64 states".into());
+    }
+    for now in 0..64 {
+        let record = &read.bytes[11 * now..11 * now + 11];
+        let has = |next: usize| record[3 + next / 8] & 1 << (next % 8) != 0;
+        let same = record[0] == 0x20
+            && usize::from(record[1]) == now
+            && initial.holds(now, now).map(u8::from) == Some(record[2])
+            && (0..64).all(|next| step.holds(now, next) == Some(has(next)));
+        if !same {
+            return Err(format!("state {now}"));
+        }
+    }
+    Ok(())
+}
+
+fn states_agree(lines: &[Vec<String>], propositions: &[String], read: &Read) -> Result<(), String> {
     let states: Vec<Said> = lines
         .iter()
         .filter(|line| first(line) == "state")
@@ -31,11 +81,7 @@ pub fn agrees(text: &str, read: &Read) -> Result<(), String> {
             return Err(format!("state {at}"));
         }
     }
-    let called = (0..propositions.len()).all(|at| read.names.proposition(at) == propositions[at]);
-    match called && read.names.given().len() == propositions.len() {
-        true => Ok(()),
-        false => Err("the names of the propositions".into()),
-    }
+    Ok(())
 }
 
 /// What stands before a comment, cut at blanks and around the signs.
@@ -156,6 +202,45 @@ mod tests {
             assert!(
                 agrees(&text.replace(from, to).replace(" thins", " x"), &read).is_err(),
                 "{from}"
+            );
+        }
+    }
+    const FORMULAS: &str =
+        "propositions a b\nstep: ((next(b)|!a) & (p3|!next(p5)))\ninitial: (!a&b) # first";
+
+    #[test]
+    fn every_byte_of_a_model_by_formulas_counts() {
+        let read = read("jobs", FORMULAS).expect("a model");
+        assert_eq!(agrees(FORMULAS, &read), Ok(()));
+        // Every byte, and of the first and the last state every bit.
+        let bits = |byte: usize| {
+            if byte % 693 < 11 {
+                0..8
+            } else {
+                byte % 8..byte % 8 + 1
+            }
+        };
+        for (byte, bit) in (0..704).flat_map(|byte| bits(byte).map(move |bit| (byte, bit))) {
+            let mut wrong = read.clone();
+            wrong.bytes[byte] ^= 1 << bit;
+            assert!(agrees(FORMULAS, &wrong).is_err(), "byte {byte} bit {bit}");
+        }
+        for (from, to) in [
+            ("!a&b", "!a|b"),
+            ("next(b)", "next(a)"),
+            ("next(b)", "b"),
+            ("!next(p5)", "next(p5)"),
+            ("p3", "p4"),
+            ("a b", "b a"),
+            ("a b", "a c"),
+            ("step", "stop"),
+            ("(!a&b)", "(!a&b"),
+            ("(!a&b)", "!a&b"),
+            ("(!a&b)", ""),
+        ] {
+            assert!(
+                agrees(&FORMULAS.replacen(from, to, 1), &read).is_err(),
+                "{from} {to}"
             );
         }
     }

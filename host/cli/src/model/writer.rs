@@ -3,8 +3,9 @@
 use super::reader::{INITIAL_WORD, PROPOSITIONS_WORD, STATE_WORD};
 use super::{decode, Model, State, RECORD};
 use crate::names::Names;
+use gongcollar::STATES;
 
-/// The text of a model, which reads back as the same bytes and names.
+/// The text of a model as it would be drawn, which reads back as the same bytes and names.
 pub fn text(model: &Model) -> String {
     let names = model.names();
     let mut text = String::new();
@@ -21,7 +22,7 @@ pub fn text(model: &Model) -> String {
 }
 
 fn line(names: &Names, at: usize, state: &State) -> String {
-    let mut line = format!("{STATE_WORD} {}", names.state(at));
+    let mut line = format!("{STATE_WORD} {}", names.state_word(at));
     if state.initial {
         line += &format!(" {INITIAL_WORD}");
     }
@@ -30,8 +31,8 @@ fn line(names: &Names, at: usize, state: &State) -> String {
         line += &format!(" {proposition}");
     }
     line += " ->";
-    for successor in names.states(state.successors) {
-        line += &format!(" {successor}");
+    for successor in (0..STATES).filter(|to| state.successors >> to & 1 == 1) {
+        line += &format!(" {}", names.state_word(successor));
     }
     line + "\n"
 }

@@ -1,5 +1,6 @@
 //! The built program, run as a user runs it.
 
+mod formulas;
 mod names;
 mod pictures;
 mod readme;

@@ -33,6 +33,9 @@ fn graphviz_takes_every_kind_of_picture() {
         "gongcollar draw half.txt --rule 'a: {expire;thin}'",
         "gongcollar draw jobs.txt --rule '{thin;write}' --anywhere",
         "gongcollar draw jobs.txt --rule '{expire}[*15..15]'",
+        "gongcollar model scheduler.txt --dot",
+        "gongcollar draw scheduler.txt --rule '{true;{written;deleted}}'",
+        "gongcollar draw scheduler.txt --rule '{true;{(written&p3);verified}}'",
     ] {
         drawn(&folder, command);
     }

@@ -3,7 +3,11 @@
 use crate::shell::{root, text, Folder};
 use std::fs;
 
-const SECTION: &str = "## `gongcollar`, the program to type";
+/// Each with how many commands it has at least.
+const SECTIONS: [(&str, usize); 2] = [
+    ("\n## `gongcollar`, the program to type", 9),
+    ("\n#### The same as a file, for `gongcollar`", 6),
+];
 const MARK: &str = "<<<<";
 
 /// A line of shell, perhaps with a document behind it, and what README shows of its output.
@@ -44,13 +48,19 @@ fn shown(section: &str) -> Vec<Shown> {
 #[test]
 fn readme_shows_what_comes_out() {
     let readme = fs::read_to_string(root().join("README.md")).expect("README.md");
-    let section = readme.split(SECTION).nth(1).expect("the section");
-    let section = section.split("\n## ").next().expect("its end");
-    let shown = shown(section);
-    assert!(shown.len() > 8, "{}", shown.len());
+    for (heading, least) in SECTIONS {
+        let section = readme.split(heading).nth(1).expect("the section");
+        let section = section.split("\n#").next().expect("its end");
+        let shown = shown(section);
+        assert!(shown.len() >= least, "{}", shown.len());
+        comes_out(&shown);
+    }
+}
+
+fn comes_out(shown: &[Shown]) {
     // One shell for all, since the status of a command is asked for by the next.
     let mut script = String::from("exec 2>&1\n");
-    for Shown { command, .. } in &shown {
+    for Shown { command, .. } in shown {
         script += &format!("status=$?; echo '{MARK}'; (exit $status)\n{command}\n");
     }
     let output = text(&Folder::new().run(&script).stdout);
