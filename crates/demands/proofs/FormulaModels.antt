@@ -7,14 +7,19 @@ use mathlib.Core.Logic.{_↔_}
 use mathlib.Core.List.{List, _++_}
 use lib.ListN.{length, take, drop, length-append, length-drop}
 use lib.Seq.{drop-at}
+<<<<<<< HEAD
 use borrow.Author.Tests.{lt-ltb}
 use Rattle.definitions.specs.Definition1.{Formula, prop}
 use Rattle.definitions.specs.Definition2.{holds}
+=======
+use Rattle.definitions.specs.Definition1.{Formula, prop}
+use Rattle.definitions.specs.Definition2.{holds}
+>>>>>>> 964ea0c47c7388679c490f65e61429729805ab52
 use Rattle.models.specs.Answer as models
 use Rattle.models.specs.Stored.{modelOf}
-use Rattle.systems.specs.Answer as systems
 use Rattle.systems.specs.Answer.{AcceptedAs}
 use Rattle.systems.proofs.Accepting.{accepted-spelling, accepted-once}
+use Rattle.systems.proofs.Faulting.{refused-line, line-refused}
 use Rattle.formula_models.specs.Meaning.{Means}
 use Rattle.formula_models.specs.Bytes.{modelBytes}
 use Rattle.formula_models.specs.Answer.{Result, written, refused, FormulasRight, no-system, short-model, the-model}
@@ -22,7 +27,7 @@ use Rattle.formula_models.proofs.Pairing.{now-bit, next-bit}
 use Rattle.formula_models.proofs.Modelling.{model-long, is-a-model, means, begins-with}
 use Rattle.formula_models.proofs.Once.{not-refused, one-answer}
 use Rattle.demands.specs.Terms.{IsModel, modelIn}
-use Rattle.demands.specs.FormulaModels.{TwoFormulas, OneReading, VariablesOfBoth, WrittenExactly, SaidBy, ModelIsSaid, PastAsItWas, RefusedFormulasKeep, NineFirst, TwentyOneLast, FormulaModels}
+use Rattle.demands.specs.FormulaModels.{TwoFormulas, OneReading, VariablesOfBoth, WrittenExactly, SaidBy, ModelIsSaid, PastAsItWas, RefusedFormulasKeep, of-system, short-slice, FormulasFault, FormulasRefusedExactly, FormulaModels}
 
 accepted-two : {s : List ℕ} {f g : Formula} → AcceptedAs s f g → TwoFormulas s f g
 accepted-two {s} {f} {g} a = let x = accepted-spelling s f g .0 a in record { spelt = x .0; short = x .1 }
@@ -97,25 +102,27 @@ refused-formulas-keep s b a n p r = go r refl
     go (short-model u l e) z = e
     go (the-model u l e) z = absurd (no-written (sym z))
 
-nine-first : NineFirst
-nine-first s b a x r l = go r
+formulas-refused-exactly : FormulasRefusedExactly
+formulas-refused-exactly s b a x n p r = (out r, back r)
   where
-    go : {x : Result} → FormulasRight s b a x → x ≡ refused 9 0
-    go (no-system {n} {p} q e) =
-        let k : systems.answer s ≡ systems.refused 9 0 = rw (lt-ltb 255 (length s) l) in
-        let u : n ≡ 9 = cc in
-        let v : p ≡ 0 = cc in
-        ap₂ refused u v
-    go (short-model u k e) = absurd (omega (arith, u .short))
-    go (the-model u k e) = absurd (omega (arith, u .short))
+    out : {x : Result} → FormulasRight s b a x → x ≡ refused n p → FormulasFault s b n p
+    out (no-system {n = m} {p = i} q e) z =
+        let u : m ≡ n = cc in
+        let v : i ≡ p = cc in
+        rw (← u, ← v) (of-system (refused-line s m i q))
+    out (short-model {f} {g} t l e) z =
+        let u : 21 ≡ n = cc in
+        let v : 0 ≡ p = cc in
+        rw (← u, ← v) (short-slice f g (accepted-two t) l)
+    out (the-model t l e) z = absurd (no-written (sym z))
 
-twenty-one-last : TwentyOneLast
-twenty-one-last s b a f g x r t l = go r
-  where
-    go : {x : Result} → FormulasRight s b a x → x ≡ refused 21 0
-    go (no-system q e) = absurd (not-refused (two-accepted t) q)
-    go (short-model u k e) = refl
-    go (the-model u k e) = absurd (omega arith)
+    back : {x : Result} {n p : ℕ} → FormulasRight s b a x → FormulasFault s b n p → x ≡ refused n p
+    back {n = n} {p = p} (no-system q e) (of-system f) = let z = line-refused s n p f in cc
+    back (no-system q e) (short-slice f g t l) = absurd (not-refused (two-accepted t) q)
+    back {n = n} {p = p} (short-model t l e) (of-system f) = absurd (not-refused t (line-refused s n p f))
+    back (short-model t l e) (short-slice f g u k) = refl
+    back {n = n} {p = p} (the-model t l e) (of-system f) = absurd (not-refused t (line-refused s n p f))
+    back (the-model t l e) (short-slice f g u k) = absurd (omega arith)
 
 pub formula-models : FormulaModels
 formula-models = record {
@@ -125,7 +132,6 @@ formula-models = record {
   model-is-said = model-is-said;
   past-as-it-was = past-as-it-was;
   refused-formulas-keep = refused-formulas-keep;
-  nine-first = nine-first;
-  twenty-one-last = twenty-one-last;
+  formulas-refused-exactly = formulas-refused-exactly;
   one-formulas = one-answer;
 }

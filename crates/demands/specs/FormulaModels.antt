@@ -10,6 +10,7 @@ use Rattle.bits.specs.Word.{bit}
 use Rattle.definitions.specs.Definition1.{Formula, prop}
 use Rattle.definitions.specs.Definition2.{holds}
 use Rattle.systems.specs.Spelling as systems
+use Rattle.systems.specs.Faults.{SystemFault}
 use Rattle.formula_models.specs.declared.FormulasAnswer.{FormulasAnswer}
 use Rattle.formula_models.specs.Answer.{Result, written, refused, told, FormulasRight}
 use Rattle.demands.specs.Terms.{IsModel, modelIn}
@@ -53,12 +54,13 @@ PastAsItWas = (s b a : List ℕ) → Reads s b a written → (length a ≡ lengt
 abbrev pub RefusedFormulasKeep : Type 0
 RefusedFormulasKeep = (s b a : List ℕ) (n p : ℕ) → Reads s b a (refused n p) → a ≡ b
 
--- 9 is tested first, whatever the bytes are; 21 last, of bytes that are two formulas'
-abbrev pub NineFirst : Type 0
-NineFirst = (s b a : List ℕ) (x : Result) → Reads s b a x → 255 < length s → x ≡ refused 9 0
+-- the refusals: 9 and 2 to 6 where the lines of a system say, and 21 last, of bytes that are two formulas'
+pub data FormulasFault (s b : List ℕ) : ℕ → ℕ → Type 0 where
+  of-system : {n p : ℕ} → SystemFault s n p → FormulasFault s b n p
+  short-slice : (f g : Formula) → TwoFormulas s f g → length b < 704 → FormulasFault s b 21 0
 
-abbrev pub TwentyOneLast : Type 0
-TwentyOneLast = (s b a : List ℕ) (f g : Formula) (x : Result) → Reads s b a x → TwoFormulas s f g → length b < 704 → x ≡ refused 21 0
+abbrev pub FormulasRefusedExactly : Type 0
+FormulasRefusedExactly = (s b a : List ℕ) (x : Result) (n p : ℕ) → Reads s b a x → (x ≡ refused n p) ↔ FormulasFault s b n p
 
 -- no second answer fits, and no second content of the slice
 abbrev pub OneFormulas : Type 0
@@ -71,6 +73,5 @@ pub record FormulaModels : Type 0 where
   pub model-is-said : ModelIsSaid
   pub past-as-it-was : PastAsItWas
   pub refused-formulas-keep : RefusedFormulasKeep
-  pub nine-first : NineFirst
-  pub twenty-one-last : TwentyOneLast
+  pub formulas-refused-exactly : FormulasRefusedExactly
   pub one-formulas : OneFormulas

@@ -6,3 +6,4 @@ pub mod Standing
 pub mod Finish
 pub mod Accepting
 pub mod Once
+pub mod Faulting

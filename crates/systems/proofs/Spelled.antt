@@ -132,11 +132,18 @@ reads-f next (join j f g) (u, v) t ns k at =
     rw (junction-kind j, append-assoc (spellF f) (spellF g) t)
     (reads-f next f u (spellF g ++ t) (formula next ∷ ns) (λ a b. k (join j a b)) (at + 1) ∙ reads-f next g v t ns (λ b. k (join j f b)) _ ∙ far t ns (k (join j f g)) _ _ (omega (arith, length-append (spellF f) (spellF g))))
 
+-- also where more bytes come after it
+pub reads : (f g : Formula) → SmallF false f → SmallF true g → (t : List ℕ) → parse (spell f g ++ t) ≡ scan t [] (good f g) (length (spell f g))
+reads f g u v t =
+    let e = length-append (spellF f) (stepMark ∷ spellF g) in
+    let n : 1 + length (spellF f) + 1 + length (spellF g) ≡ length (spell f g) = omega arith in
+    ap (λ (l : List ℕ). scan (initialMark ∷ l) parts (λ i f m g. good f g) 0) (append-assoc (spellF f) (stepMark ∷ spellF g) t)
+    ∙ reads-f false f u (stepMark ∷ (spellF g ++ t)) (mark stepMark ∷ formula true ∷ []) (λ f m g. good f g) 1
+    ∙ reads-f true g v t [] (λ g. good f g) (1 + length (spellF f) + 1)
+    ∙ far t [] (good f g) _ _ n
+
 pub spelt-is-read : (f g : Formula) → SmallF false f → SmallF true g → parse (spell f g) ≡ good f g
-spelt-is-read f g u v =
-    reads-f false f u (stepMark ∷ spellF g) (mark stepMark ∷ formula true ∷ []) (λ f m g. good f g) 1
-    ∙ ap (λ (l : List ℕ). scan l (formula true ∷ []) (λ g. good f g) (1 + length (spellF f) + 1)) (sym (append-nil (spellF g)))
-    ∙ reads-f true g v [] [] (λ g. good f g) (1 + length (spellF f) + 1)
+spelt-is-read f g u v = ap parse (sym (append-nil (spell f g))) ∙ reads f g u v []
 
 -- ---- what is read is spelt
 abbrev Values : List Need → Type 0

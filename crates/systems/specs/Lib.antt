@@ -3,4 +3,5 @@ pub mod Reading
 pub mod Spelling
 pub mod Refusals
 pub mod Answer
+pub mod Faults
 pub mod inner
