@@ -7,14 +7,8 @@ use mathlib.Core.Logic.{_↔_}
 use mathlib.Core.List.{List, _++_}
 use lib.ListN.{length, take, drop, length-append, length-drop}
 use lib.Seq.{drop-at}
-<<<<<<< HEAD
-use borrow.Author.Tests.{lt-ltb}
 use Rattle.definitions.specs.Definition1.{Formula, prop}
 use Rattle.definitions.specs.Definition2.{holds}
-=======
-use Rattle.definitions.specs.Definition1.{Formula, prop}
-use Rattle.definitions.specs.Definition2.{holds}
->>>>>>> 964ea0c47c7388679c490f65e61429729805ab52
 use Rattle.models.specs.Answer as models
 use Rattle.models.specs.Stored.{modelOf}
 use Rattle.systems.specs.Answer.{AcceptedAs}
