@@ -1,9 +1,10 @@
 -- Laws of `linked`.
-use mathlib.Core.Path.{_≡_, refl, _∙_}
+use mathlib.Core.Path.{_≡_, refl, sym, subst, _∙_}
 use mathlib.Core.List.{List}
 use mathlib.Core.Bool.{Bool, true, false, cond}
 use Prim.Native.Nat.{ℕ, _+_, _<_, _≤_}
 use native.Mathlib.Omega.{arith}
+use native.Mathlib.Decide.{ℕ-discrete}
 use lib.Bits.{bitOr, or-self}
 use Rattle.bits.specs.Word.{bit}
 use Rattle.automata.specs.Table.{tableStates, cell}
@@ -30,6 +31,14 @@ cond-same false x y e = refl
 pub linked-src : (t : List ℕ) (src f q : ℕ) → linked t src f src q ≡ cell t src q
 unfolding linked
 linked-src t src f q = cond-same (bit f src) _ _ (or-self (cell t src q))
+
+-- the row of src need not be gone over
+pub link-after : (t t′ : List ℕ) (src b c d f : ℕ) → d ≤ tableStates → Put t t′ (src + 1) b c d (linked t src f) → Put t t′ src b c d (linked t src f)
+link-after t t′ src b c d f n x = record { new = λ p q i. new p q i (ℕ-discrete p src); old = λ p q h o. x .old p q h (λ i. o (record { top = omega (arith, i .top); bottom = i .bottom; left = i .left; right = i .right })) }
+  where
+    new : (p q : ℕ) → In src b c d p q → Dec (p ≡ src) → cell t′ p q ≡ linked t src f p q
+    new p q i (yes e) = x .old p q (omega (arith, i .right)) (λ j. omega (arith, e, j .top)) ∙ sym (subst (λ (r : ℕ). linked t src f r q ≡ cell t r q) (sym e) (linked-src t src f q))
+    new p q i (no o) = x .new p q (record { top = omega (arith, i .top, o); bottom = i .bottom; left = i .left; right = i .right })
 
 -- a row more
 module _ (t₀ t₁ t₂ : List ℕ) (a b c d src f : ℕ) (l : a ≤ b) (n : d ≤ tableStates) (x : Put t₀ t₁ a b c d (linked t₀ src f)) where

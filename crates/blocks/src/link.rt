@@ -57,12 +57,13 @@ pub fn then(t: &mut [u64], base: usize, a: Shape, b: Shape)
     link(t, base, mid, mid, hi, finals);
 }
 
-// `[*]` and `[+]`, which have the same labels: a's finals also get what leaves a.
+// `[*]` and `[+]`, which have the same labels: a's finals also get what leaves a. The first state has that already, and no row that is written is
+// then the one that is read.
 pub fn again(t: &mut [u64], base: usize, a: Shape)
     requires { ⌜ (tableEntries ≤ length (now t)) × (0 < a .weight) × (base + a .weight ≤ tableStates) ⌝ }
     ensures { λ _. ⌜ Repeats a (now (t .entry)) (now (t .exit)) base ⌝ }
 {
     let hi = base + a.weight;
     let finals = raise(a.finals, base);
-    link(t, base, hi, base, hi, finals);
+    link(t, base + 1, hi, base, hi, finals);
 }

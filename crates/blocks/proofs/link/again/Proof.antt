@@ -1,5 +1,6 @@
 -- `blocks::link::again` meets its contract. Assumes nothing.
 use native.Mathlib.Omega.{arith}
+use Rattle.blocks.proofs.Linking.{link-after}
 use Rattle.blocks.proofs.Turns.{repeats}
 use borrow.Author.Needs.{needs}
 use Rattle.blocks.proofs.link.again.Statement.{statement}
@@ -11,6 +12,9 @@ add-hi c = search needs
 raise-requires : tie.Need-raise-requires
 raise-requires c κs = search needs
 
+add-link : tie.Need-add-link
+add-link c = omega arith
+
 link-requires : tie.Need-link-requires
 link-requires c κs = search needs
 
@@ -20,7 +24,7 @@ same-length c = search needs
 returns : tie.Need-returns
 returns c =
     let l = c .before .before in
-    repeats _ _ _ _ _ (omega arith) (l .before .before .raise .ensures) (l .link .ensures)
+    repeats _ _ _ _ _ (omega arith) (l .before .before .raise .ensures) (link-after _ _ _ _ _ _ _ (omega arith) (l .link .ensures))
 
 pub again-spec : {M : Type 1} → statement M
-again-spec = tie.close (tie.spec add-hi raise-requires link-requires same-length returns)
+again-spec = tie.close (tie.spec add-hi raise-requires add-link link-requires same-length returns)
