@@ -12,5 +12,6 @@ pub mod Places
 pub mod UsedLetters
 pub mod Queueing
 pub mod Waving
+pub mod Carrying
 pub mod Rounding
 pub mod Flowing

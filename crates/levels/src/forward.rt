@@ -11,7 +11,7 @@ ghost use Rattle.automata.specs.Table.{tableStates};
 ghost use Rattle.models.specs.Model.{modelStates};
 ghost use Rattle.levels.specs.Lent.{modelIn, tableIn, pairCount};
 ghost use Rattle.levels.specs.inner.Passes.{Along, FromAll, Ended, labelsIn, PassInput, Workspace, Unmarked};
-ghost use Rattle.levels.specs.inner.Waves.{Queued, Pushed, Fronts};
+ghost use Rattle.levels.specs.inner.Waves.{Queued, Pushed, Fronts, Carried};
 use crate::shape::BEGIN;
 use crate::shape::ForwardEnd;
 use crate::shape::MODEL_STATES;
@@ -34,6 +34,19 @@ fn final_any(front: &[u64], fresh: u64, finals: u64) -> bool
         }
     }
     false
+}
+
+// Puts the sets of the states in `fresh` in place of those before: no others of a level are looked at, and most levels have few.
+fn carry(after: &[u64], front: &mut [u64], fresh: u64)
+    requires { ⌜ ((s : ℕ) → T (bit fresh s) → (s < length (now after)) × (s < length (now front))) ⌝ }
+    ensures { λ _. ⌜ Carried (In fresh) (now (after .entry)) (now (front .entry)) (now (front .exit)) ⌝ }
+{
+    let mut rest = fresh;
+    while rest != 0 {
+        let s = bits::lowest(rest);
+        rest = bits::without(rest, s);
+        front[s] = after[s];
+    }
 }
 
 // The first level, on marks that are all 0: what table state 0 leads to in the initial states.
@@ -143,7 +156,7 @@ pub fn forward(
             sizes,
             wave,
         );
-        front = after;
+        carry(&after, &mut front, wave.fresh);
         new = wave.count - count;
     }
     ForwardEnd {

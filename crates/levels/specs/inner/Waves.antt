@@ -60,3 +60,9 @@ pub record Fronts (m : List ℕ) (states j fresh : ℕ) (front : List ℕ) : Typ
   pub holds : (s q : ℕ) → T (bit fresh s) → T (bit (getD front s 0) q) → (s < states) × (q < tableStates) × (view m s q ≡ j)
   pub inside : (s : ℕ) → T (bit fresh s) → s < states
   pub has : (s q : ℕ) → s < modelStates → q < tableStates → view m s q ≡ j → T (bit fresh s) × T (bit (getD front s 0) q)
+
+-- the sets of the states in P are those of `after`, the others as they were
+pub record Carried (P : ℕ → Type 0) (after front front′ : List ℕ) : Type 0 where
+  pub size : length front′ ≡ length front
+  pub these : (s : ℕ) → P s → getD front′ s 0 ≡ getD after s 0
+  pub others : (s : ℕ) → (P s → ⊥) → getD front′ s 0 ≡ getD front s 0

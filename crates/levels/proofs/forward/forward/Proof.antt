@@ -10,6 +10,7 @@ use Rattle.models.specs.Stored.{modelWith}
 use Rattle.models.specs.Model.{modelStates}
 use Rattle.levels.specs.Lent.{pairCount}
 use Rattle.levels.proofs.SearchInput.{inputOf}
+use Rattle.levels.proofs.Carrying.{carried-fronts}
 use Rattle.levels.proofs.Flowing.{Flow, begin-past, flow-begin, flow-final, flow-level, flow-found, flow-none, flow-less, flow-on}
 use Rattle.levels.proofs.forward.forward.Statement.{statement}
 use Rattle.levels.proofs.forward.forward.Tie as tie
@@ -80,26 +81,39 @@ round-requires c κs =
       x .fronts,
     )
 
+slice-aggregate-carry : tie.Need-slice-aggregate-carry Inv-loop μ-loop
+slice-aggregate-carry c = sym (c .before .before .before .before .before .before .round .ensures .1 ∙ c .before .before .before .before .before .before .before .before .before .before .before .before .before .before .before .loop .inv .0)
+
+slice-aggregate-carry-2 : tie.Need-slice-aggregate-carry-2 Inv-loop μ-loop
+slice-aggregate-carry-2 c = sym (c .before .before .before .before .before .before .before .before .before .before .before .before .before .before .before .before .loop .inv .1 .room)
+
+carry-requires : tie.Need-carry-requires Inv-loop μ-loop
+carry-requires c κs = λ s t.
+    let below = c .before .before .before .before .before .before .before .round .ensures .3 .inside s t in
+    let few = c .before .before .before .before .before .before .before .before .before .before .before .before .before .before .before .before .before .before .before .before .before .before .before .before .before .before .before .before .before .before .before .before .pre .0 .model .few in
+    (omega (arith, below, few, c .before .before .before .before .before .before .before .round .ensures .1, c .before .before .before .before .before .before .before .before .before .before .before .before .before .before .before .before .loop .inv .0), omega (arith, below, few, c .before .before .before .before .before .before .before .before .before .before .before .before .before .before .before .before .loop .inv .1 .room))
+
 sub-new : tie.Need-sub-new Inv-loop μ-loop
-sub-new c = omega (arith, c .before .before .before .before .before .before .round .ensures .2 .sum)
+sub-new c = omega (arith, c .before .before .before .before .before .before .before .before .before .before .round .ensures .2 .sum)
 
 loop-less : tie.Need-loop-less Inv-loop μ-loop
 loop-less c =
-    let a = c .before .before .before .before .before .before .before .before .before .before .before .before .before .before .before .before .before .before .before .before .before .before .before .before .before .before .before .before .before .before .before .args in
-    let p = c .before .before .before .before .before .before .before .before .before .before .before .before .before .before .before .before .before .before .before .before .before .before .before .before .before .before .before .before .before .before .before .pre in
-    let x = c .before .before .before .before .before .before .before .before .before .before .before .before .before .before .before .loop .inv .1 in
+    let a = c .before .before .before .before .before .before .before .before .before .before .before .before .before .before .before .before .before .before .before .before .before .before .before .before .before .before .before .before .before .before .before .before .before .before .before .args in
+    let p = c .before .before .before .before .before .before .before .before .before .before .before .before .before .before .before .before .before .before .before .before .before .before .before .before .before .before .before .before .before .before .before .before .before .before .before .pre in
+    let x = c .before .before .before .before .before .before .before .before .before .before .before .before .before .before .before .before .before .before .before .loop .inv .1 in
     let G = inputOf (a .sizes) (a .table .now) (a .letters .now) (a .successors .now) (p .0 .labels) (p .0 .model) in
-    flow-less G x (c .before .before .before .before .before .before .before .before .before .before .before .before .before .before .loop-test .taken) (flow-final G x (c .before .before .before .before .before .before .before .before .before .before .before .before .final-any .ensures) .no-fails (c .before .before .before .before .before .before .before .before .before .before .before .if1 .left)) (c .before .before .before .before .before .before .round .ensures .2)
+    flow-less G x (c .before .before .before .before .before .before .before .before .before .before .before .before .before .before .before .before .before .before .loop-test .taken) (flow-final G x (c .before .before .before .before .before .before .before .before .before .before .before .before .before .before .before .before .final-any .ensures) .no-fails (c .before .before .before .before .before .before .before .before .before .before .before .before .before .before .before .if1 .left)) (c .before .before .before .before .before .before .before .before .before .before .round .ensures .2)
 
 loop-again : tie.Need-loop-again Inv-loop μ-loop
 loop-again c =
-    let a = c .before .before .before .before .before .before .before .before .before .before .before .before .before .before .before .before .before .before .before .before .before .before .before .before .before .before .before .before .before .before .before .args in
-    let p = c .before .before .before .before .before .before .before .before .before .before .before .before .before .before .before .before .before .before .before .before .before .before .before .before .before .before .before .before .before .before .before .pre in
-    let x = c .before .before .before .before .before .before .before .before .before .before .before .before .before .before .before .loop .inv .1 in
-    let e = c .before .before .before .before .before .before .round .ensures in
+    let a = c .before .before .before .before .before .before .before .before .before .before .before .before .before .before .before .before .before .before .before .before .before .before .before .before .before .before .before .before .before .before .before .before .before .before .before .args in
+    let p = c .before .before .before .before .before .before .before .before .before .before .before .before .before .before .before .before .before .before .before .before .before .before .before .before .before .before .before .before .before .before .before .before .before .before .before .pre in
+    let i = c .before .before .before .before .before .before .before .before .before .before .before .before .before .before .before .before .before .before .before .loop .inv in
+    let x = i .1 in
+    let e = c .before .before .before .before .before .before .before .before .before .before .round .ensures in
+    let y = c .before .before .carry .ensures in
     let G = inputOf (a .sizes) (a .table .now) (a .letters .now) (a .successors .now) (p .0 .labels) (p .0 .model) in
-    let r = e .1 ∙ c .before .before .before .before .before .before .before .before .before .before .before .before .before .before .before .loop .inv .0 in
-    (r, flow-on G x (c .before .before .before .before .before .before .before .before .before .before .before .before .before .before .loop-test .taken) (flow-final G x (c .before .before .before .before .before .before .before .before .before .before .before .before .final-any .ensures) .no-fails (c .before .before .before .before .before .before .before .before .before .before .before .if1 .left)) (e .2) (e .0) (e .3) r)
+    (e .1 ∙ i .0, flow-on G x (c .before .before .before .before .before .before .before .before .before .before .before .before .before .before .before .before .before .before .loop-test .taken) (flow-final G x (c .before .before .before .before .before .before .before .before .before .before .before .before .before .before .before .before .final-any .ensures) .no-fails (c .before .before .before .before .before .before .before .before .before .before .before .before .before .before .before .if1 .left)) (e .2) (e .0) (carried-fronts y (e .3)) (y .size ∙ x .room))
 
 same-length-3 : tie.Need-same-length-3 Inv-loop μ-loop
 same-length-3 c = c .before .loop .inv .1 .marks-past .size ∙ c .before .before .before .before .before .before .before .begin .ensures .2 .step .size
@@ -133,6 +147,9 @@ forward-spec =
     slice-aggregate-round
     slice-aggregate-round-2
     round-requires
+    slice-aggregate-carry
+    slice-aggregate-carry-2
+    carry-requires
     sub-new
     loop-less
     loop-again
