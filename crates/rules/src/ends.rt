@@ -49,7 +49,7 @@ fn counts_end(rule: &[u8], at: usize) -> Read
     }
 }
 
-// Reads a formula at `at`.
+// Reads a formula at `at`. What a call comes to is returned at once where it is handed on: the value of a `match` is copied, and that at each level.
 pub fn formula_end(rule: &[u8], at: usize) -> Read
     ensures { λ r. ⌜ FormulaRead (now (rule .entry)) at r ⌝ }
 {
@@ -60,13 +60,13 @@ pub fn formula_end(rule: &[u8], at: usize) -> Read
         Kind::Unknown => Read::Refused(Refusal::UnknownKind(at)),
         Kind::OfRule(_) => Read::Refused(Refusal::WrongSort(at)),
         Kind::OfFormula(k) => match k {
-            FormulaKind::Proposition => body_end(rule, at + 1),
+            FormulaKind::Proposition => return body_end(rule, at + 1),
             FormulaKind::Truth => Read::Ends(at + 1),
             FormulaKind::Falsity => Read::Ends(at + 1),
-            FormulaKind::Not => formula_end(rule, at + 1),
+            FormulaKind::Not => return formula_end(rule, at + 1),
             FormulaKind::Join(_) => match formula_end(rule, at + 1) {
                 Read::Refused(x) => Read::Refused(x),
-                Read::Ends(m) => formula_end(rule, m),
+                Read::Ends(m) => return formula_end(rule, m),
             },
         },
     }
@@ -83,20 +83,20 @@ pub fn rule_end(rule: &[u8], at: usize) -> Read
         Kind::Unknown => Read::Refused(Refusal::UnknownKind(at)),
         Kind::OfFormula(_) => Read::Refused(Refusal::WrongSort(at)),
         Kind::OfRule(k) => match k {
-            RuleKind::Letter => formula_end(rule, at + 1),
+            RuleKind::Letter => return formula_end(rule, at + 1),
             RuleKind::Empty => Read::Ends(at + 1),
-            RuleKind::Again(_) => rule_end(rule, at + 1),
+            RuleKind::Again(_) => return rule_end(rule, at + 1),
             RuleKind::Two(_) => match rule_end(rule, at + 1) {
                 Read::Refused(x) => Read::Refused(x),
-                Read::Ends(m) => rule_end(rule, m),
+                Read::Ends(m) => return rule_end(rule, m),
             },
             RuleKind::Counted => match counts_end(rule, at + 1) {
                 Read::Refused(x) => Read::Refused(x),
-                Read::Ends(m) => rule_end(rule, m),
+                Read::Ends(m) => return rule_end(rule, m),
             },
             RuleKind::Occurs => match counts_end(rule, at + 1) {
                 Read::Refused(x) => Read::Refused(x),
-                Read::Ends(m) => formula_end(rule, m),
+                Read::Ends(m) => return formula_end(rule, m),
             },
         },
     }

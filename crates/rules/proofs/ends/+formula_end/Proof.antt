@@ -61,6 +61,9 @@ formula-end-add-body-end t c = search needs
 formula-end-body-end-requires : (t : ℕ) → formula-end-lts.Need-body-end-requires (calls t) (formula-end-at t) formula-end.Post
 formula-end-body-end-requires t c κs = search needs
 
+formula-end-returns-2 : (t : ℕ) → formula-end-lts.Need-returns-2 (calls t) (formula-end-at t) formula-end.Post
+formula-end-returns-2 t c = let s = c .before .before .before .before .before .before .before .before .before .before .args .rule .now in let at = c .before .before .before .before .before .before .before .before .before .before .args .at in f-prop s at (record { inside = omega arith; says = sym (c .before .before .before .before .before .before .kind-of .ensures) ∙ c .before .before .before .before .k .given .1 ∙ ap OfFormula (c .before .enum-told3 .given .1) }) (c .body-end .result) (c .body-end .ensures)
+
 formula-end-enum-told-4 : (t : ℕ) → formula-end-lts.Need-enum-told-4 (calls t) (formula-end-at t) formula-end.Post
 formula-end-enum-told-4 t c = search needs
 
@@ -82,6 +85,9 @@ formula-end-add-formula-end t c = search needs
 formula-end-formula-end-requires : (t : ℕ) → formula-end-lts.Need-formula-end-requires (calls t) (formula-end-at t) formula-end.Post
 formula-end-formula-end-requires t c κs = (omega arith, tt)
 
+formula-end-returns-3 : (t : ℕ) → formula-end-lts.Need-returns-3 (calls t) (formula-end-at t) formula-end.Post
+formula-end-returns-3 t c = let s = c .before .before .before .before .before .before .before .before .before .before .args .rule .now in let at = c .before .before .before .before .before .before .before .before .before .before .args .at in f-neg s at (record { inside = omega arith; says = sym (c .before .before .before .before .before .before .kind-of .ensures) ∙ c .before .before .before .before .k .given .1 ∙ ap OfFormula (c .before .enum-told6 .given .1) }) (c .formula-end .result) (c .formula-end .ensures)
+
 formula-end-enum-told-7 : (t : ℕ) → formula-end-lts.Need-enum-told-7 (calls t) (formula-end-at t) formula-end.Post
 formula-end-enum-told-7 t c = search needs
 
@@ -100,29 +106,23 @@ formula-end-enum-known-m t c = search needs
 formula-end-formula-end-requires-3 : (t : ℕ) → formula-end-lts.Need-formula-end-requires-3 (calls t) (formula-end-at t) formula-end.Post
 formula-end-formula-end-requires-3 t c κs = let s = c .before .before .before .before .before .before .before .before .before .before .before .before .before .args .rule .now in let at = c .before .before .before .before .before .before .before .before .before .before .before .before .before .args .at in let fr = subst (FormulaRead s (at + 1)) (c .before .m .given .1) (c .before .before .before .formula-end2 .ensures) in let i = formula-ends s (fr .1) in (omega arith, tt)
 
-formula-end-returns-2 : (t : ℕ) → formula-end-lts.Need-returns-2 (calls t) (formula-end-at t) formula-end.Post
-formula-end-returns-2 t c = f-unknown _ _ (record { inside = omega arith; says = sym (c .before .before .kind-of .ensures) ∙ c .enum-told .given .1 })
-
-formula-end-returns-3 : (t : ℕ) → formula-end-lts.Need-returns-3 (calls t) (formula-end-at t) formula-end.Post
-formula-end-returns-3 t c = f-wrong _ _ (c .enum-told2 .given .0 .0) (record { inside = omega arith; says = sym (c .before .before .kind-of .ensures) ∙ c .enum-told2 .given .1 })
-
 formula-end-returns-4 : (t : ℕ) → formula-end-lts.Need-returns-4 (calls t) (formula-end-at t) formula-end.Post
-formula-end-returns-4 t c = let s = c .before .before .before .before .before .before .before .before .before .before .args .rule .now in let at = c .before .before .before .before .before .before .before .before .before .before .args .at in f-prop s at (record { inside = omega arith; says = sym (c .before .before .before .before .before .before .kind-of .ensures) ∙ c .before .before .before .before .k .given .1 ∙ ap OfFormula (c .before .enum-told3 .given .1) }) (c .body-end .result) (c .body-end .ensures)
+formula-end-returns-4 t c = let s = c .before .before .before .before .before .before .before .before .before .before .before .before .before .before .args .rule .now in let at = c .before .before .before .before .before .before .before .before .before .before .before .before .before .before .args .at in f-join s at (c .before .before .before .before .before .enum-told7 .given .0 .0) (record { inside = omega arith; says = sym (c .before .before .before .before .before .before .before .before .before .before .kind-of .ensures) ∙ c .before .before .before .before .before .before .before .before .k .given .1 ∙ ap OfFormula (c .before .before .before .before .before .enum-told7 .given .1) }) (c .before .before .m .given .0 .0) (subst (FormulaRead s (at + 1)) (c .before .before .m .given .1) (c .before .before .before .before .formula-end2 .ensures)) (c .formula-end3 .result) (c .formula-end3 .ensures)
 
 formula-end-returns-5 : (t : ℕ) → formula-end-lts.Need-returns-5 (calls t) (formula-end-at t) formula-end.Post
-formula-end-returns-5 t c = f-yea _ _ (record { inside = omega arith; says = sym (c .before .before .before .before .before .kind-of .ensures) ∙ c .before .before .before .k .given .1 ∙ ap OfFormula (c .enum-told4 .given .1) })
+formula-end-returns-5 t c = f-unknown _ _ (record { inside = omega arith; says = sym (c .before .before .kind-of .ensures) ∙ c .enum-told .given .1 })
 
 formula-end-returns-6 : (t : ℕ) → formula-end-lts.Need-returns-6 (calls t) (formula-end-at t) formula-end.Post
-formula-end-returns-6 t c = f-nay _ _ (record { inside = omega arith; says = sym (c .before .before .before .before .before .kind-of .ensures) ∙ c .before .before .before .k .given .1 ∙ ap OfFormula (c .enum-told5 .given .1) })
+formula-end-returns-6 t c = f-wrong _ _ (c .enum-told2 .given .0 .0) (record { inside = omega arith; says = sym (c .before .before .kind-of .ensures) ∙ c .enum-told2 .given .1 })
 
 formula-end-returns-7 : (t : ℕ) → formula-end-lts.Need-returns-7 (calls t) (formula-end-at t) formula-end.Post
-formula-end-returns-7 t c = let s = c .before .before .before .before .before .before .before .before .before .before .args .rule .now in let at = c .before .before .before .before .before .before .before .before .before .before .args .at in f-neg s at (record { inside = omega arith; says = sym (c .before .before .before .before .before .before .kind-of .ensures) ∙ c .before .before .before .before .k .given .1 ∙ ap OfFormula (c .before .enum-told6 .given .1) }) (c .formula-end .result) (c .formula-end .ensures)
+formula-end-returns-7 t c = f-yea _ _ (record { inside = omega arith; says = sym (c .before .before .before .before .before .kind-of .ensures) ∙ c .before .before .before .k .given .1 ∙ ap OfFormula (c .enum-told4 .given .1) })
 
 formula-end-returns-8 : (t : ℕ) → formula-end-lts.Need-returns-8 (calls t) (formula-end-at t) formula-end.Post
-formula-end-returns-8 t c = let s = c .before .before .before .before .before .before .before .before .before .before .before .before .before .args .rule .now in let at = c .before .before .before .before .before .before .before .before .before .before .before .before .before .args .at in f-join-bad s at (c .before .before .before .before .enum-told7 .given .0 .0) (record { inside = omega arith; says = sym (c .before .before .before .before .before .before .before .before .before .kind-of .ensures) ∙ c .before .before .before .before .before .before .before .k .given .1 ∙ ap OfFormula (c .before .before .before .before .enum-told7 .given .1) }) (c .before .x .given .0 .0) (subst (FormulaRead s (at + 1)) (c .before .x .given .1) (c .before .before .before .formula-end2 .ensures))
+formula-end-returns-8 t c = f-nay _ _ (record { inside = omega arith; says = sym (c .before .before .before .before .before .kind-of .ensures) ∙ c .before .before .before .k .given .1 ∙ ap OfFormula (c .enum-told5 .given .1) })
 
 formula-end-returns-9 : (t : ℕ) → formula-end-lts.Need-returns-9 (calls t) (formula-end-at t) formula-end.Post
-formula-end-returns-9 t c = let s = c .before .before .before .before .before .before .before .before .before .before .before .before .before .before .args .rule .now in let at = c .before .before .before .before .before .before .before .before .before .before .before .before .before .before .args .at in f-join s at (c .before .before .before .before .before .enum-told7 .given .0 .0) (record { inside = omega arith; says = sym (c .before .before .before .before .before .before .before .before .before .before .kind-of .ensures) ∙ c .before .before .before .before .before .before .before .before .k .given .1 ∙ ap OfFormula (c .before .before .before .before .before .enum-told7 .given .1) }) (c .before .before .m .given .0 .0) (subst (FormulaRead s (at + 1)) (c .before .before .m .given .1) (c .before .before .before .before .formula-end2 .ensures)) (c .formula-end3 .result) (c .formula-end3 .ensures)
+formula-end-returns-9 t c = let s = c .before .before .before .before .before .before .before .before .before .before .before .before .before .args .rule .now in let at = c .before .before .before .before .before .before .before .before .before .before .before .before .before .args .at in f-join-bad s at (c .before .before .before .before .enum-told7 .given .0 .0) (record { inside = omega arith; says = sym (c .before .before .before .before .before .before .before .before .before .kind-of .ensures) ∙ c .before .before .before .before .before .before .before .k .given .1 ∙ ap OfFormula (c .before .before .before .before .enum-told7 .given .1) }) (c .before .x .given .0 .0) (subst (FormulaRead s (at + 1)) (c .before .x .given .1) (c .before .before .before .formula-end2 .ensures))
 
 pub +formula-end-spec : {M : Type 1} → statement M
 +formula-end-spec = close μ-formula-end λ t. formula-end-lts.spec (calls t)
@@ -137,6 +137,7 @@ pub +formula-end-spec : {M : Type 1} → statement M
     (formula-end-enum-told-3 t)
     (formula-end-add-body-end t)
     (formula-end-body-end-requires t)
+    (formula-end-returns-2 t)
     (formula-end-enum-told-4 t)
     (formula-end-add-t17 t)
     (formula-end-enum-told-5 t)
@@ -144,14 +145,13 @@ pub +formula-end-spec : {M : Type 1} → statement M
     (formula-end-enum-told-6 t)
     (formula-end-add-formula-end t)
     (formula-end-formula-end-requires t)
+    (formula-end-returns-3 t)
     (formula-end-enum-told-7 t)
     (formula-end-add-formula-end-2 t)
     (formula-end-formula-end-requires-2 t)
     (formula-end-enum-known-x t)
     (formula-end-enum-known-m t)
     (formula-end-formula-end-requires-3 t)
-    (formula-end-returns-2 t)
-    (formula-end-returns-3 t)
     (formula-end-returns-4 t)
     (formula-end-returns-5 t)
     (formula-end-returns-6 t)
