@@ -3,10 +3,7 @@ mod agree;
 mod bytes;
 mod draws;
 mod judge_cases;
-mod model_bytes;
-mod model_cases;
 mod rule_cases;
-mod search_cases;
 mod show;
 mod table_cases;
 mod walk_cases;
@@ -16,10 +13,8 @@ fn main() {
     let mut second = [0u8; 1024];
     let mut table = [0u64; 4096];
     rule_cases::run(&mut space);
-    model_cases::run(&mut space);
     judge_cases::run(&mut space);
     table_cases::run(&mut space, &mut table);
     walk_cases::run(&mut space, &mut table);
     agree::run(&mut space, &mut second, &mut table);
-    search_cases::run(&mut space, &mut second);
 }

@@ -9,10 +9,6 @@ pub fn number(n: u64) {
     io::print_decimal(STDOUT_FILENO, n);
 }
 
-pub fn byte(b: u8) {
-    number(b as u64);
-}
-
 // A label: 16 digits.
 pub fn word(label: u64) {
     io::print_hex(STDOUT_FILENO, label, 16);

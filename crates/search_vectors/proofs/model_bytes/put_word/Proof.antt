@@ -1,10 +1,10 @@
--- `vectors::model_bytes::put_word` is safe and ends. Assumes nothing.
+-- `search_vectors::model_bytes::put_word` is safe and ends. Assumes nothing.
 use Prim.Native.Nat.{_≤_, _-_}
 use mathlib.Core.Path.{_≡_}
 use lib.ListN.{length}
 use borrow.Author.Needs.{needs}
-use Rattle.vectors.proofs.model_bytes.put_word.Statement.{statement}
-use Rattle.vectors.proofs.model_bytes.put_word.Tie as tie
+use Rattle.search_vectors.proofs.model_bytes.put_word.Statement.{statement}
+use Rattle.search_vectors.proofs.model_bytes.put_word.Tie as tie
 
 abbrev Inv-loop : tie.InvT-loop
 Inv-loop out₀ at word end₀ rest₀ counter₀ out end rest counter = (counter ≤ 8) × (length out ≡ length out₀)

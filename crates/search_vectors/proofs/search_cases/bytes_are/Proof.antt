@@ -1,8 +1,8 @@
--- `vectors::search_cases::bytes_are` is safe and ends. Assumes nothing.
+-- `search_vectors::search_cases::bytes_are` is safe and ends. Assumes nothing.
 use Prim.Native.Nat.{_≤_, _-_}
 use borrow.Author.Needs.{needs}
-use Rattle.vectors.proofs.search_cases.bytes_are.Statement.{statement}
-use Rattle.vectors.proofs.search_cases.bytes_are.Tie as tie
+use Rattle.search_vectors.proofs.search_cases.bytes_are.Statement.{statement}
+use Rattle.search_vectors.proofs.search_cases.bytes_are.Tie as tie
 
 abbrev Inv-loop : tie.InvT-loop
 Inv-loop s a b v i₀ i = a ≤ i
