@@ -60,7 +60,7 @@ fn body_end(system: &[u8], at: usize) -> Read
     }
 }
 
-// Reads a formula at `at`; `next`: it may name variables of the next state.
+// Reads a formula at `at`; `next`: it may name variables of the next state. What a call comes to is returned at once where it is handed on, as in `rules`.
 pub fn formula_end(system: &[u8], at: usize, next: bool) -> Read
     ensures { λ r. ⌜ FormulaRead (now (system .entry)) next at r ⌝ }
 {
@@ -77,13 +77,13 @@ pub fn formula_end(system: &[u8], at: usize, next: bool) -> Read
             Read::Refused(Refusal::WrongSort(at))
         }
         SystemKind::Plain(k) => match k {
-            FormulaKind::Proposition => body_end(system, at + 1),
+            FormulaKind::Proposition => return body_end(system, at + 1),
             FormulaKind::Truth => Read::Ends(at + 1),
             FormulaKind::Falsity => Read::Ends(at + 1),
-            FormulaKind::Not => formula_end(system, at + 1, next),
+            FormulaKind::Not => return formula_end(system, at + 1, next),
             FormulaKind::Join(_) => match formula_end(system, at + 1, next) {
                 Read::Refused(x) => Read::Refused(x),
-                Read::Ends(m) => formula_end(system, m, next),
+                Read::Ends(m) => return formula_end(system, m, next),
             },
         },
     }

@@ -78,6 +78,14 @@ formula-end-add-body-end-2 t c = search needs
 formula-end-body-end-requires-2 : (t : ℕ) → formula-end-lts.Need-body-end-requires-2 (calls t) (formula-end-at t) formula-end.Post
 formula-end-body-end-requires-2 t c κs = search needs
 
+formula-end-returns-3 : (t : ℕ) → formula-end-lts.Need-returns-3 (calls t) (formula-end-at t) formula-end.Post
+formula-end-returns-3 t c =
+    let s = c .before .before .before .before .before .before .before .before .before .before .args .system .now in
+    let at = c .before .before .before .before .before .before .before .before .before .before .args .at in
+    let next = c .before .before .before .before .before .before .before .before .before .before .args .next in
+    let h : Here s at (Plain Proposition) = record { inside = omega arith; says = sym (c .before .before .before .before .before .before .kind-of .ensures) ∙ c .before .before .before .before .k .given .1 ∙ ap Plain (c .before .enum-told4 .given .1) } in
+    f-prop s next at h (c .body-end2 .result) (c .body-end2 .ensures)
+
 formula-end-enum-told-5 : (t : ℕ) → formula-end-lts.Need-enum-told-5 (calls t) (formula-end-at t) formula-end.Post
 formula-end-enum-told-5 t c = search needs
 
@@ -98,6 +106,14 @@ formula-end-add-formula-end t c = search needs
 
 formula-end-formula-end-requires : (t : ℕ) → formula-end-lts.Need-formula-end-requires (calls t) (formula-end-at t) formula-end.Post
 formula-end-formula-end-requires t c κs = (omega arith, tt)
+
+formula-end-returns-4 : (t : ℕ) → formula-end-lts.Need-returns-4 (calls t) (formula-end-at t) formula-end.Post
+formula-end-returns-4 t c =
+    let s = c .before .before .before .before .before .before .before .before .before .before .args .system .now in
+    let at = c .before .before .before .before .before .before .before .before .before .before .args .at in
+    let next = c .before .before .before .before .before .before .before .before .before .before .args .next in
+    let h : Here s at (Plain Not) = record { inside = omega arith; says = sym (c .before .before .before .before .before .before .kind-of .ensures) ∙ c .before .before .before .before .k .given .1 ∙ ap Plain (c .before .enum-told7 .given .1) } in
+    f-neg s next at h (c .formula-end .result) (c .formula-end .ensures)
 
 formula-end-enum-told-8 : (t : ℕ) → formula-end-lts.Need-enum-told-8 (calls t) (formula-end-at t) formula-end.Post
 formula-end-enum-told-8 t c = search needs
@@ -123,77 +139,61 @@ formula-end-formula-end-requires-3 t c κs =
     let i = formula-ends s (r .1) in
     (omega arith, tt)
 
-formula-end-returns-3 : (t : ℕ) → formula-end-lts.Need-returns-3 (calls t) (formula-end-at t) formula-end.Post
-formula-end-returns-3 t c =
+formula-end-returns-5 : (t : ℕ) → formula-end-lts.Need-returns-5 (calls t) (formula-end-at t) formula-end.Post
+formula-end-returns-5 t c =
+    let s = c .before .before .before .before .before .before .before .before .before .before .before .before .before .before .args .system .now in
+    let at = c .before .before .before .before .before .before .before .before .before .before .before .before .before .before .args .at in
+    let next = c .before .before .before .before .before .before .before .before .before .before .before .before .before .before .args .next in
+    let h : Here s at (Plain (Join (c .before .before .before .before .before .enum-told8 .given .0 .0))) = record { inside = omega arith; says = sym (c .before .before .before .before .before .before .before .before .before .before .kind-of .ensures) ∙ c .before .before .before .before .before .before .before .before .k .given .1 ∙ ap Plain (c .before .before .before .before .before .enum-told8 .given .1) } in
+    f-join s next at _ h (c .before .before .m .given .0 .0) (subst (FormulaRead s next (at + 1)) (c .before .before .m .given .1) (c .before .before .before .before .formula-end2 .ensures)) (c .formula-end3 .result) (c .formula-end3 .ensures)
+
+formula-end-returns-6 : (t : ℕ) → formula-end-lts.Need-returns-6 (calls t) (formula-end-at t) formula-end.Post
+formula-end-returns-6 t c =
     let s = c .before .before .before .before .before .before .args .system .now in
     let at = c .before .before .before .before .before .before .args .at in
     let next = c .before .before .before .before .before .before .args .next in
     let h : Here s at Nothing = record { inside = omega arith; says = sym (c .before .before .kind-of .ensures) ∙ c .enum-told .given .1 } in
     f-nothing s next at h
 
-formula-end-returns-4 : (t : ℕ) → formula-end-lts.Need-returns-4 (calls t) (formula-end-at t) formula-end.Post
-formula-end-returns-4 t c =
+formula-end-returns-7 : (t : ℕ) → formula-end-lts.Need-returns-7 (calls t) (formula-end-at t) formula-end.Post
+formula-end-returns-7 t c =
     let s = c .before .before .before .before .before .before .args .system .now in
     let at = c .before .before .before .before .before .before .args .at in
     let next = c .before .before .before .before .before .before .args .next in
     let h : Here s at Elsewhere = record { inside = omega arith; says = sym (c .before .before .kind-of .ensures) ∙ c .enum-told2 .given .1 } in
     f-elsewhere s next at h
 
-formula-end-returns-5 : (t : ℕ) → formula-end-lts.Need-returns-5 (calls t) (formula-end-at t) formula-end.Post
-formula-end-returns-5 t c =
+formula-end-returns-8 : (t : ℕ) → formula-end-lts.Need-returns-8 (calls t) (formula-end-at t) formula-end.Post
+formula-end-returns-8 t c =
     let s = c .before .before .before .before .before .before .before .args .system .now in
     let at = c .before .before .before .before .before .before .before .args .at in
     let next = c .before .before .before .before .before .before .before .args .next in
     let h : Here s at Next = record { inside = omega arith; says = sym (c .before .before .before .kind-of .ensures) ∙ c .before .enum-told3 .given .1 } in
     f-no-next s next at h (c .if2 .left)
 
-formula-end-returns-6 : (t : ℕ) → formula-end-lts.Need-returns-6 (calls t) (formula-end-at t) formula-end.Post
-formula-end-returns-6 t c =
-    let s = c .before .before .before .before .before .before .before .before .before .before .args .system .now in
-    let at = c .before .before .before .before .before .before .before .before .before .before .args .at in
-    let next = c .before .before .before .before .before .before .before .before .before .before .args .next in
-    let h : Here s at (Plain Proposition) = record { inside = omega arith; says = sym (c .before .before .before .before .before .before .kind-of .ensures) ∙ c .before .before .before .before .k .given .1 ∙ ap Plain (c .before .enum-told4 .given .1) } in
-    f-prop s next at h (c .body-end2 .result) (c .body-end2 .ensures)
-
-formula-end-returns-7 : (t : ℕ) → formula-end-lts.Need-returns-7 (calls t) (formula-end-at t) formula-end.Post
-formula-end-returns-7 t c =
+formula-end-returns-9 : (t : ℕ) → formula-end-lts.Need-returns-9 (calls t) (formula-end-at t) formula-end.Post
+formula-end-returns-9 t c =
     let s = c .before .before .before .before .before .before .before .before .before .args .system .now in
     let at = c .before .before .before .before .before .before .before .before .before .args .at in
     let next = c .before .before .before .before .before .before .before .before .before .args .next in
     let h : Here s at (Plain Truth) = record { inside = omega arith; says = sym (c .before .before .before .before .before .kind-of .ensures) ∙ c .before .before .before .k .given .1 ∙ ap Plain (c .enum-told5 .given .1) } in
     f-yea s next at h
 
-formula-end-returns-8 : (t : ℕ) → formula-end-lts.Need-returns-8 (calls t) (formula-end-at t) formula-end.Post
-formula-end-returns-8 t c =
+formula-end-returns-10 : (t : ℕ) → formula-end-lts.Need-returns-10 (calls t) (formula-end-at t) formula-end.Post
+formula-end-returns-10 t c =
     let s = c .before .before .before .before .before .before .before .before .before .args .system .now in
     let at = c .before .before .before .before .before .before .before .before .before .args .at in
     let next = c .before .before .before .before .before .before .before .before .before .args .next in
     let h : Here s at (Plain Falsity) = record { inside = omega arith; says = sym (c .before .before .before .before .before .kind-of .ensures) ∙ c .before .before .before .k .given .1 ∙ ap Plain (c .enum-told6 .given .1) } in
     f-nay s next at h
 
-formula-end-returns-9 : (t : ℕ) → formula-end-lts.Need-returns-9 (calls t) (formula-end-at t) formula-end.Post
-formula-end-returns-9 t c =
-    let s = c .before .before .before .before .before .before .before .before .before .before .args .system .now in
-    let at = c .before .before .before .before .before .before .before .before .before .before .args .at in
-    let next = c .before .before .before .before .before .before .before .before .before .before .args .next in
-    let h : Here s at (Plain Not) = record { inside = omega arith; says = sym (c .before .before .before .before .before .before .kind-of .ensures) ∙ c .before .before .before .before .k .given .1 ∙ ap Plain (c .before .enum-told7 .given .1) } in
-    f-neg s next at h (c .formula-end .result) (c .formula-end .ensures)
-
-formula-end-returns-10 : (t : ℕ) → formula-end-lts.Need-returns-10 (calls t) (formula-end-at t) formula-end.Post
-formula-end-returns-10 t c =
+formula-end-returns-11 : (t : ℕ) → formula-end-lts.Need-returns-11 (calls t) (formula-end-at t) formula-end.Post
+formula-end-returns-11 t c =
     let s = c .before .before .before .before .before .before .before .before .before .before .before .before .before .args .system .now in
     let at = c .before .before .before .before .before .before .before .before .before .before .before .before .before .args .at in
     let next = c .before .before .before .before .before .before .before .before .before .before .before .before .before .args .next in
     let h : Here s at (Plain (Join (c .before .before .before .before .enum-told8 .given .0 .0))) = record { inside = omega arith; says = sym (c .before .before .before .before .before .before .before .before .before .kind-of .ensures) ∙ c .before .before .before .before .before .before .before .k .given .1 ∙ ap Plain (c .before .before .before .before .enum-told8 .given .1) } in
     f-join-bad s next at _ h (c .before .x .given .0 .0) (subst (FormulaRead s next (at + 1)) (c .before .x .given .1) (c .before .before .before .formula-end2 .ensures))
-
-formula-end-returns-11 : (t : ℕ) → formula-end-lts.Need-returns-11 (calls t) (formula-end-at t) formula-end.Post
-formula-end-returns-11 t c =
-    let s = c .before .before .before .before .before .before .before .before .before .before .before .before .before .before .args .system .now in
-    let at = c .before .before .before .before .before .before .before .before .before .before .before .before .before .before .args .at in
-    let next = c .before .before .before .before .before .before .before .before .before .before .before .before .before .before .args .next in
-    let h : Here s at (Plain (Join (c .before .before .before .before .before .enum-told8 .given .0 .0))) = record { inside = omega arith; says = sym (c .before .before .before .before .before .before .before .before .before .before .kind-of .ensures) ∙ c .before .before .before .before .before .before .before .before .k .given .1 ∙ ap Plain (c .before .before .before .before .before .enum-told8 .given .1) } in
-    f-join s next at _ h (c .before .before .m .given .0 .0) (subst (FormulaRead s next (at + 1)) (c .before .before .m .given .1) (c .before .before .before .before .formula-end2 .ensures)) (c .formula-end3 .result) (c .formula-end3 .ensures)
 
 pub +formula-end-spec : {M : Type 1} → statement M
 +formula-end-spec = close μ-formula-end λ t. formula-end-lts.spec (calls t)
@@ -212,6 +212,7 @@ pub +formula-end-spec : {M : Type 1} → statement M
     (formula-end-enum-told-4 t)
     (formula-end-add-body-end-2 t)
     (formula-end-body-end-requires-2 t)
+    (formula-end-returns-3 t)
     (formula-end-enum-told-5 t)
     (formula-end-add-t21 t)
     (formula-end-enum-told-6 t)
@@ -219,14 +220,13 @@ pub +formula-end-spec : {M : Type 1} → statement M
     (formula-end-enum-told-7 t)
     (formula-end-add-formula-end t)
     (formula-end-formula-end-requires t)
+    (formula-end-returns-4 t)
     (formula-end-enum-told-8 t)
     (formula-end-add-formula-end-2 t)
     (formula-end-formula-end-requires-2 t)
     (formula-end-enum-known-x t)
     (formula-end-enum-known-m t)
     (formula-end-formula-end-requires-3 t)
-    (formula-end-returns-3 t)
-    (formula-end-returns-4 t)
     (formula-end-returns-5 t)
     (formula-end-returns-6 t)
     (formula-end-returns-7 t)
