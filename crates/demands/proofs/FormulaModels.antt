@@ -14,6 +14,8 @@ use Rattle.models.specs.Stored.{modelOf}
 use Rattle.systems.specs.Answer.{AcceptedAs}
 use Rattle.systems.proofs.Accepting.{accepted-spelling, accepted-once}
 use Rattle.systems.proofs.Faulting.{refused-line, line-refused}
+use Rattle.systems.proofs.Spelled.{spell-now, spell-next}
+use Rattle.systems.proofs.Once as reader
 use Rattle.formula_models.specs.Meaning.{Means}
 use Rattle.formula_models.specs.Bytes.{modelBytes}
 use Rattle.formula_models.specs.Answer.{Result, written, refused, FormulasRight, no-system, short-model, the-model}
@@ -21,7 +23,7 @@ use Rattle.formula_models.proofs.Pairing.{now-bit, next-bit}
 use Rattle.formula_models.proofs.Modelling.{model-long, is-a-model, means, begins-with}
 use Rattle.formula_models.proofs.Once.{not-refused, one-answer}
 use Rattle.demands.specs.Terms.{IsModel, modelIn}
-use Rattle.demands.specs.FormulaModels.{TwoFormulas, OneReading, VariablesOfBoth, WrittenExactly, SaidBy, ModelIsSaid, PastAsItWas, RefusedFormulasKeep, of-system, short-slice, FormulasFault, FormulasRefusedExactly, FormulaModels}
+use Rattle.demands.specs.FormulaModels.{TwoFormulas, SystemBytes, OneReading, VariablesOfBoth, WrittenExactly, SaidBy, ModelIsSaid, PastAsItWas, RefusedFormulasKeep, of-system, short-slice, FormulasFault, FormulasRefusedExactly, FormulaModels}
 
 accepted-two : {s : List ℕ} {f g : Formula} → AcceptedAs s f g → TwoFormulas s f g
 accepted-two {s} {f} {g} a = let x = accepted-spelling s f g .0 a in record { spelt = x .0; short = x .1 }
@@ -118,8 +120,23 @@ formulas-refused-exactly s b a x n p r = (out r, back r)
     back {n = n} {p = p} (the-model t l e) (of-system f) = absurd (not-refused t (line-refused s n p f))
     back (the-model t l e) (short-slice f g u k) = absurd (omega arith)
 
+system-bytes : SystemBytes
+system-bytes = record {
+  is-system = λ f g. refl;
+  is-now = spell-now;
+  is-next = spell-next;
+  is-true = refl;
+  is-false = refl;
+  is-not = λ f. refl;
+  is-and = λ f g. refl;
+  is-or = λ f g. refl;
+  of-this-state = λ i. (λ h. h, λ h. h);
+  of-both-states = λ i. (λ h. h, λ h. h);
+}
+
 pub formula-models : FormulaModels
 formula-models = record {
+  system-bytes = system-bytes;
   one-reading = one-reading;
   variables-of-both = variables-of-both;
   written-exactly = written-exactly;
@@ -128,4 +145,5 @@ formula-models = record {
   refused-formulas-keep = refused-formulas-keep;
   formulas-refused-exactly = formulas-refused-exactly;
   one-formulas = one-answer;
+  one-system = reader.one-answer;
 }

@@ -1,10 +1,18 @@
 -- What is asked of rows by letter holds. Assumes nothing.
 use Prim.Native.Nat.{ℕ, _≤_, _<_}
 use native.Mathlib.Omega.{arith}
-use mathlib.Core.Path.{_≡_, refl, sym, ap₂, _∙_}
+use native.Mathlib.Decide.{decLt}
+use mathlib.Core.Path.{_≡_, refl, sym, ap₂, subst, _∙_}
 use mathlib.Core.Logic.{_↔_, _⊎_, inl, inr, Iff·trans}
 use mathlib.Core.List.{List}
+use lib.Dec.{T}
 use lib.ListN.{length}
+use Rattle.bits.specs.Word.{bit}
+use Rattle.bits.proofs.Laws.{bit-zero}
+use Rattle.bits.proofs.Truths.{false-no}
+use Rattle.bits.proofs.Resting.{in-word}
+use Rattle.automata.specs.Table.{tableOf, cell}
+use Rattle.automata.proofs.TableOf.{edge-out, edge-in}
 use Rattle.tables.specs.Beyond.{Beyond}
 use Rattle.walkers.specs.declared.Walker.{Walker}
 use Rattle.walkers.proofs.Once as walkers-once
@@ -16,7 +24,7 @@ use Rattle.letter_rows.proofs.Once as rows-once
 use Rattle.row_walkers.proofs.Alike as alike
 use Rattle.demands.specs.CallFaults.{StepFault, FollowFault, ConvertFault}
 use Rattle.demands.specs.CallFaults as faults
-use Rattle.demands.specs.LetterRows.{RowsStored, TableStored, RowsRefusedExactly, TableRefusedExactly, RefusedRowsKeep, RefusedTableKeeps, StepSame, LentStepSame, FollowSame, ShortSame, StepRowsRefusedExactly, FollowRowsRefusedExactly, RuleRowsFollowed, RuleRowsRemembered, LetterRows}
+use Rattle.demands.specs.LetterRows.{RowsStored, TableStored, RowsRefusedExactly, TableRefusedExactly, RefusedRowsKeep, RefusedTableKeeps, StepSame, LentStepSame, FollowSame, ShortSame, StepRowsRefusedExactly, FollowRowsRefusedExactly, RuleRowsFollowed, RuleRowsRemembered, SearchRowsSame, LetterRows}
 use Rattle.demands.proofs.CallFaults.{step-fault, follow-fault}
 use Rattle.demands.proofs.Demand2 as demand-2
 use Rattle.demands.proofs.Walkers as walkers
@@ -111,6 +119,23 @@ rule-rows-followed f t r finals b h w l a e = let d = e ∙ alike.rows-follow h 
 pub rule-rows-remembered : RuleRowsRemembered
 rule-rows-remembered f t r finals b h w v k = walkers.walker-remembers f t finals b w v (alike.rows-took h k)
 
+search-rows-same : SearchRowsSame
+search-rows-same t r n used h w few within fits =
+    let x = laying.rows-rowed h w in
+    record {
+      long = x .long;
+      sound = λ k p q u hp e. inside k p q (edge-out t 64 0 p k q (x .sound k p q (in-word k fits u) hp e) .2) (decLt p n) (decLt q n);
+      complete = λ k p q u e. let y = edge-out t n 0 p k q e in x .complete k p q (in-word k fits u) (edge-in t 64 0 p k q (omega (arith, y .0)) (omega (arith, y .1)) (y .2));
+    }
+  where
+    nothing : (k p q : ℕ) → T (bit (cell t p q) k) → (n ≤ p) ⊎ (n ≤ q) → ⊥
+    nothing k p q s o = false-no (bit-zero k) (subst (λ (y : ℕ). T (bit y k)) (within p q o) s)
+
+    inside : (k p q : ℕ) → T (bit (cell t p q) k) → Dec (p < n) → Dec (q < n) → T (tableOf t n 0 .edge p k q)
+    inside k p q s (yes a) (yes b) = edge-in t n 0 p k q a b s
+    inside k p q s (yes a) (no b) = absurd (nothing k p q s (inr (omega arith)))
+    inside k p q s (no a) d = absurd (nothing k p q s (inl (omega arith)))
+
 pub letter-rows-hold : LetterRows
 letter-rows-hold = record {
   rows-stored = rows-stored;
@@ -133,5 +158,5 @@ letter-rows-hold = record {
   follow-rows-refused-exactly = follow-rows-refused-exactly;
   rule-rows-followed = rule-rows-followed;
   rule-rows-remembered = rule-rows-remembered;
-  search-rows-same = λ t r h w. laying.rows-rowed h w;
+  search-rows-same = search-rows-same;
 }

@@ -3,13 +3,16 @@
 use Prim.Native.Nat.{ℕ, _+_, _*_, _<_, _≤_}
 use mathlib.Core.Path.{_≡_}
 use mathlib.Core.Logic.{_↔_}
-use mathlib.Core.Bool.{true}
-use mathlib.Core.List.{List}
+use mathlib.Core.Bool.{true, false}
+use mathlib.Core.List.{List, [], _∷_, _++_}
 use lib.ListN.{length, take, drop}
 use Rattle.bits.specs.Word.{bit}
-use Rattle.definitions.specs.Definition1.{Formula, prop}
+use Rattle.definitions.specs.declared.kinds.Junction.the-variants.{And, Or}
+use Rattle.definitions.specs.Definition1.{Formula, prop, yea, nay, neg, join}
 use Rattle.definitions.specs.Definition2.{holds}
+use Rattle.systems.specs.declared.SystemAnswer.{SystemAnswer}
 use Rattle.systems.specs.Spelling as systems
+use Rattle.systems.specs.Answer as reader
 use Rattle.systems.specs.Faults.{SystemFault}
 use Rattle.formula_models.specs.declared.FormulasAnswer.{FormulasAnswer}
 use Rattle.formula_models.specs.Answer.{Result, written, refused, told, FormulasRight}
@@ -19,6 +22,20 @@ use Rattle.demands.specs.Terms.{IsModel, modelIn}
 pub record TwoFormulas (s : List ℕ) (f g : Formula) : Type 0 where
   pub spelt : systems.Spells s f g
   pub short : length s ≤ 255
+
+-- the request's bytes, written out once more: a mark or a kind that moves is seen here
+pub record SystemBytes : Type 0 where
+  pub is-system : (f g : Formula) → systems.spell f g ≡ 0x30 ∷ (systems.spellF f ++ (0x31 ∷ systems.spellF g))
+  pub is-now : (i : ℕ) → i ≤ 5 → systems.spellF (prop i) ≡ 0x01 ∷ i ∷ []
+  pub is-next : (i : ℕ) → systems.spellF (prop (6 + i)) ≡ 0x07 ∷ i ∷ []
+  pub is-true : systems.spellF yea ≡ 0x02 ∷ []
+  pub is-false : systems.spellF nay ≡ 0x03 ∷ []
+  pub is-not : (f : Formula) → systems.spellF (neg f) ≡ 0x04 ∷ systems.spellF f
+  pub is-and : (f g : Formula) → systems.spellF (join And f g) ≡ 0x05 ∷ (systems.spellF f ++ systems.spellF g)
+  pub is-or : (f g : Formula) → systems.spellF (join Or f g) ≡ 0x06 ∷ (systems.spellF f ++ systems.spellF g)
+  -- the first formula has variables of this state alone, the second of both
+  pub of-this-state : (i : ℕ) → systems.SmallF false (prop i) ↔ (i ≤ 5)
+  pub of-both-states : (i : ℕ) → systems.SmallF true (prop i) ↔ (i ≤ 11)
 
 -- no other two formulas have these bytes
 abbrev pub OneReading : Type 0
@@ -66,7 +83,12 @@ FormulasRefusedExactly = (s b a : List ℕ) (x : Result) (n p : ℕ) → Reads s
 abbrev pub OneFormulas : Type 0
 OneFormulas = (s b a a′ : List ℕ) (x y : FormulasAnswer) → Reads s b a (told x) → Reads s b a′ (told y) → (x ≡ y) × (a ≡ a′)
 
+-- and none of the call that only reads
+abbrev pub OneSystem : Type 0
+OneSystem = (s : List ℕ) (a b : SystemAnswer) → reader.told a ≡ reader.answer s → reader.told b ≡ reader.answer s → a ≡ b
+
 pub record FormulaModels : Type 0 where
+  pub system-bytes : SystemBytes
   pub one-reading : OneReading
   pub variables-of-both : VariablesOfBoth
   pub written-exactly : WrittenExactly
@@ -75,3 +97,4 @@ pub record FormulaModels : Type 0 where
   pub refused-formulas-keep : RefusedFormulasKeep
   pub formulas-refused-exactly : FormulasRefusedExactly
   pub one-formulas : OneFormulas
+  pub one-system : OneSystem

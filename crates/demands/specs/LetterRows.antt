@@ -1,12 +1,13 @@
 -- Request 2026-09: rows by letter. A table is stored the other way and back, and a walker over the rows does what it does over the table.
 -- Assumes nothing: these are definitions.
-use Prim.Native.Nat.{ℕ, _+_, _*_, _≤_, _<_}
+use Prim.Native.Nat.{ℕ, _+_, _*_, _^_, _≤_, _<_}
 use mathlib.Core.Path.{_≡_}
-use mathlib.Core.Logic.{_↔_}
+use mathlib.Core.Logic.{_↔_, _⊎_}
 use mathlib.Core.Bool.{true}
 use mathlib.Core.List.{List}
 use lib.ListN.{length, getD}
 use Rattle.bits.specs.Word.{bit}
+use Rattle.bits.specs.Sets.{In}
 use Rattle.definitions.specs.Definition1.{Rule}
 use Rattle.definitions.specs.Definition2.{Sat}
 use Rattle.automata.specs.Table.{tableOf}
@@ -105,9 +106,13 @@ RuleRowsFollowed = (f : Rule) (t r : List ℕ) (finals : ℕ) → TableFor f t f
 abbrev pub RuleRowsRemembered : Type 0
 RuleRowsRemembered = (f : Rule) (t r : List ℕ) (finals : ℕ) → TableFor f t finals → RowsOf t r → (w : List ℕ) (v : Walker) → Took (tableBy r) finals w v → Remembers f w v
 
--- a table's rows are rows as the search takes them, for every letter
+-- no label is outside the first n states
+abbrev pub Within : ℕ → List ℕ → Type 0
+Within n t = (p q : ℕ) → (n ≤ p) ⊎ (n ≤ q) → getD t (64 * p + q) 0 ≡ 0
+
+-- the rows of a table of n states are rows as the search takes them, for any set of letters
 abbrev pub SearchRowsSame : Type 0
-SearchRowsSame = (t r : List ℕ) → RowsOf t r → Words r → Rowed (tableOf t 64 0) (λ x. x < 64) r
+SearchRowsSame = (t r : List ℕ) (n used : ℕ) → RowsOf t r → Words r → n ≤ 64 → Within n t → used < 2 ^ 64 → Rowed (tableOf t n 0) (In used) r
 
 pub record LetterRows : Type 0 where
   pub rows-stored : RowsStored
