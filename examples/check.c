@@ -35,12 +35,17 @@ static gc_searched search(size_t rule_len, size_t model_len) {
     return gc_search(rule, rule_len, model, model_len, table, ENTRIES, work1, ENTRIES, work2, ENTRIES, run, ENTRIES);
 }
 
+/* Whether an answer is a refusal, which is then told. Asked before anything else is read of it: the rest is then 0. */
+static int is_refused(const char *what, uint64_t refused, uint64_t place) {
+    if (refused)
+        printf("%s: refused %" PRIu64 " at %" PRIu64 "\n", what, refused, place);
+    return refused != 0;
+}
+
 static void show(const char *what, gc_searched answer) {
-    printf("%s: ", what);
-    if (answer.refused) {
-        printf("refused %" PRIu64 " at %" PRIu64 "\n", answer.refused, answer.place);
+    if (is_refused(what, answer.refused, answer.place))
         return;
-    }
+    printf("%s: ", what);
     if (!answer.found) {
         printf("no run of any length matches; %" PRIu64 " pairs\n", answer.pairs);
         return;
@@ -60,12 +65,9 @@ static const uint8_t half_drawn[] = {
 
 static void tell_dead_ends(const char *what, const uint8_t *bytes, size_t count) {
     gc_lasts answer = gc_lasting(bytes, count);
-    printf("%s: ", what);
-    if (answer.refused) {
-        printf("refused %" PRIu64 " at %" PRIu64 "\n", answer.refused, answer.place);
+    if (is_refused(what, answer.refused, answer.place))
         return;
-    }
-    printf("of %" PRIu64 " states no endless run leaves:", answer.states);
+    printf("%s: of %" PRIu64 " states no endless run leaves:", what, answer.states);
     for (uint64_t s = 0; s < answer.states; s++)
         if (!(answer.lasting >> s & 1))
             printf(" %" PRIu64, s);
@@ -90,30 +92,28 @@ static const uint8_t too_early[] = {0x12, 0x17, 0x10, 0x02, 0x10, 0x05, 0x01, 0x
 static void search_scheduler(void) {
     static uint8_t states[704];
     gc_written written = gc_formula_model(scheduler, sizeof scheduler, states, sizeof states);
-    if (written.refused) {
-        printf("the scheduler: refused %" PRIu64 " at %" PRIu64 "\n", written.refused, written.place);
+    if (is_refused("the scheduler", written.refused, written.place))
         return;
-    }
     show("the scheduler", gc_search(too_early, sizeof too_early, states, written.length, table, ENTRIES, work1, ENTRIES,
                                     work2, ENTRIES, run, ENTRIES));
 }
 
+static void tell_match(const char *what, gc_moved answer) {
+    if (!is_refused(what, answer.refused, answer.place))
+        printf("%s: %s\n", what, answer.matches ? "they match" : "they do not match");
+}
+
 /* whether the rule accepts the events; its table stands in `table` and has these finals */
 static void follow(const char *what, uint64_t finals, const uint8_t *events, size_t count) {
-    gc_moved answer = gc_follow(table, ENTRIES, finals, events, count);
-    printf("%s: ", what);
-    if (answer.refused)
-        printf("refused %" PRIu64 " at %" PRIu64 "\n", answer.refused, answer.place);
-    else
-        printf("%s\n", answer.matches ? "they match" : "they do not match");
+    tell_match(what, gc_follow(table, ENTRIES, finals, events, count));
 }
 
 /* the same over the table stored as rows by letter, which takes less time */
 static void follow_rows(uint64_t finals, const uint8_t *events, size_t count) {
     static uint64_t rows[ENTRIES];
-    gc_rows_of(table, ENTRIES, rows, ENTRIES);
-    gc_moved answer = gc_follow_rows(rows, ENTRIES, finals, events, count);
-    printf("by rows: %s\n", answer.matches ? "they match" : "they do not match");
+    gc_done stored = gc_rows_of(table, ENTRIES, rows, ENTRIES);
+    if (!is_refused("rows", stored.refused, stored.place))
+        tell_match("by rows", gc_follow_rows(rows, ENTRIES, finals, events, count));
 }
 
 /* what the host keeps of a clinic, with the walker in it */
@@ -137,7 +137,7 @@ static void day(uint64_t finals) {
     for (size_t i = 0; i < sizeof events / sizeof *events; i++) {
         gc_moved answer = gc_step_lent(&clinics[events[i][0]].walker, table, ENTRIES, events[i][1]);
         if (answer.refused)
-            printf("event %zu: refused %" PRIu64 "\n", i, answer.refused);
+            printf("event %zu: refused %" PRIu64 " at %" PRIu64 "\n", i, answer.refused, answer.place);
     }
     tell(&clinics[0]);
     tell(&clinics[1]);
@@ -154,6 +154,8 @@ int main(void) {
     /* p0, p1, p1, p2, and a byte that is no letter */
     static const uint8_t events[] = {1, 2, 2, 4, 64};
     gc_built built = gc_build(rule, sizeof rule, table, ENTRIES);
+    if (is_refused("the rule", built.refused, built.place))
+        return 1;
     follow("four events", built.finals, events, 4);
     follow("the first three of them", built.finals, events, 3);
     follow("five events", built.finals, events, 5);
