@@ -34,14 +34,18 @@ bytes() {
     done
 }
 
+# The line without its newline. An answer that broke off has none, and is no answer.
+whole_line() {
+    IFS= read -r line && printf %s "$line"
+}
+
 for program in "$rulecheck" "$ruletext"; do
     [ -x "$program" ] || stop "there is no program $program: run 'rt check rulecheck ruletext' in $root"
 done
 
-# The line without its newline. An answer that broke off has none, and is no answer.
-rule=$(printf %s "$text" | "$ruletext" | { IFS= read -r line && printf %s "$line"; }) || stop "ruletext gave no answer"
+rule=$(printf %s "$text" | "$ruletext" | whole_line) || stop "ruletext gave no answer"
 case $rule in
-refused*) stop "no rule has the text $text: $rule" ;;
+refused*) stop "the text $text: $rule" ;;
 esac
 
 # All is looked at before anything is checked: a verdict on a part of it would be one on another model.
@@ -52,4 +56,6 @@ for byte in $rule $model; do
     esac
 done
 
-bytes "$(printf %02x "$(count $rule)")" $rule $model | "$rulecheck"
+verdict=$(bytes "$(printf %02x "$(count $rule)")" $rule $model | "$rulecheck" | whole_line) ||
+    stop "rulecheck gave no answer"
+printf '%s\n' "$verdict"
