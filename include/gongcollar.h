@@ -98,8 +98,9 @@ gc_searched gc_search_trimmed(const uint8_t *rule, size_t rule_len, const uint8_
  * the answer is the line's length, 0 where out is shorter than that, and out is then untouched */
 uint64_t gc_rulecheck(const uint8_t *input, size_t input_len, uint8_t *out, size_t out_len);
 /* A rule as text: `length` is the number of bytes of the rule, or of characters of the text, written to the beginning of
- * out; 255 bytes, or 1,280 characters, are always enough. 31 is at the first character that no rule text has there, so
- * that the characters before it begin one; reading tests 30, 31, 1, 7 and then 32, writing the rule's own and then 32. */
+ * out; 255 bytes, or 1,280 characters, are always enough. 31 is at the first character that no rule text has there, or
+ * at the text's length where it ends too early, so that the characters before it begin one; reading tests 30, 31, 1, 7
+ * and then 32, writing the rule's own and then 32. */
 gc_text gc_read_text(const uint8_t *text, size_t text_len, uint8_t *out, size_t out_len);
 gc_text gc_write_text(const uint8_t *rule, size_t rule_len, uint8_t *out, size_t out_len);
 

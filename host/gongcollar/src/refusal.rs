@@ -87,7 +87,7 @@ refusals! {
     NoTable = 24: "no table of the stated weight and finals";
     FullCount = 25: "a walker that has taken 4,294,967,295 letters";
     TextTooLong = 30: "the text has more than 1,280 characters";
-    NoText = 31: "no rule text has this character here";
+    NoText = 31: "no rule text goes on so, or the text ends too early";
     ShortOutput = 32: "the output is shorter than what would be written";
 }
 
