@@ -101,6 +101,21 @@ pub struct Where {
     pub anywhere: bool,
 }
 
+/// Whether there are warnings.
+#[derive(Debug, Args)]
+pub struct Warnings {
+    /// Say nothing of what is probably not meant
+    #[arg(long)]
+    pub no_warnings: bool,
+}
+
+impl Warnings {
+    /// Whether there are.
+    pub fn told(&self) -> bool {
+        !self.no_warnings
+    }
+}
+
 /// Names without a model that is searched.
 #[derive(Debug, Args)]
 pub struct NamesFrom {
@@ -130,9 +145,9 @@ pub struct Check {
     /// Print a JSON object for each rule
     #[arg(long)]
     pub json: bool,
-    /// Say nothing of what is probably not meant
-    #[arg(long)]
-    pub no_warnings: bool,
+    /// Whether there are warnings.
+    #[command(flatten)]
+    pub warnings: Warnings,
 }
 
 /// `model`.
@@ -249,4 +264,7 @@ pub struct Draw {
     /// Where it may match.
     #[command(flatten)]
     pub place: Where,
+    /// Whether there are warnings.
+    #[command(flatten)]
+    pub warnings: Warnings,
 }

@@ -4,7 +4,7 @@ use crate::formula::formula;
 use crate::model::{Model, RECORD};
 use crate::rules::Ready;
 use crate::trouble::Trouble;
-use crate::verdict::unexpected;
+use crate::verdict::{unexpected, Verdict};
 use gongcollar::{Rule, Table, Workspace};
 use serde::Serialize;
 use std::fmt;
@@ -117,8 +117,18 @@ impl<'a> Surveyed<'a> {
         }
     }
 
+    /// Of a rule, by what became of it: of one that was refused there is nothing to say.
+    pub fn of_verdict(&self, verdict: &Verdict) -> Result<Vec<Warning>, Trouble> {
+        match verdict {
+            Verdict::Refused(_) => Ok(Vec::new()),
+            Verdict::None { ready, pairs } | Verdict::Found { ready, pairs, .. } => {
+                self.of_rule(ready, *pairs)
+            }
+        }
+    }
+
     /// Of a rule that was searched for.
-    pub fn of_rule(&self, ready: &Ready, pairs: u64) -> Result<Vec<Warning>, Trouble> {
+    fn of_rule(&self, ready: &Ready, pairs: u64) -> Result<Vec<Warning>, Trouble> {
         let mut warnings = self.never_set(ready);
         if pairs == 0 {
             warnings.push(Warning {

@@ -1,11 +1,11 @@
 //! `check`: a line for each rule.
 
-use super::RULE;
+use super::{tell_warnings, RULE};
 use crate::args::Check;
 use crate::files::{self, called, is_standard};
 use crate::json;
 use crate::model::Model;
-use crate::output::{complain, warn, Out};
+use crate::output::{complain, Out};
 use crate::rules::{self, Ready, Typed};
 use crate::trouble::{End, Trouble};
 use crate::verdict::{search, Run, Verdict};
@@ -25,9 +25,7 @@ pub fn run(args: &Check, out: &mut Out) -> Result<Status, End> {
         true => checker.surveyed.of_model(),
         false => Vec::new(),
     };
-    for warning in &of_model {
-        warn(format!("{}: {warning}", called(&args.model.path)));
-    }
+    tell_warnings(&called(&args.model.path), &of_model);
     let mut status = Status::Nothing;
     for (verdict, warnings) in checker.answers(&rules)? {
         status = status.max(status_of(&verdict));
@@ -86,7 +84,7 @@ impl<'a> Checker<'a> {
             surveyed: Surveyed::new(model, &mut workspace)?,
             workspace,
             anywhere: args.place.anywhere,
-            warns: !args.no_warnings,
+            warns: args.warnings.told(),
         })
     }
 
@@ -108,11 +106,9 @@ impl<'a> Checker<'a> {
             Err(refused) => return Ok((Verdict::Refused(refused), Vec::new())),
         };
         let verdict = search(ready, self.model, &mut self.workspace)?;
-        let warnings = match &verdict {
-            Verdict::None { ready, pairs } | Verdict::Found { ready, pairs, .. } if self.warns => {
-                self.surveyed.of_rule(ready, *pairs)?
-            }
-            _ => Vec::new(),
+        let warnings = match self.warns {
+            true => self.surveyed.of_verdict(&verdict)?,
+            false => Vec::new(),
         };
         Ok((verdict, warnings))
     }
@@ -143,9 +139,7 @@ fn tell_beside(verdict: &Verdict, warnings: &[Warning]) {
     if let Verdict::Refused(refused) = verdict {
         complain(&refused.trouble);
     }
-    for warning in warnings {
-        warn(format!("{}: {warning}", verdict.typed().called()));
-    }
+    tell_warnings(&verdict.typed().called(), warnings);
 }
 
 /// The line of one rule.

@@ -1,12 +1,13 @@
 //! `draw`: a picture's source, with the run in colour.
 
-use super::rule;
+use super::{rule, tell_warnings};
 use crate::args::Draw;
+use crate::files::{self, called};
 use crate::output::Out;
 use crate::trouble::End;
 use crate::verdict::{search, Verdict};
 use crate::warnings::Surveyed;
-use crate::{dot, files, Status};
+use crate::{dot, Status};
 use gongcollar::Workspace;
 
 pub fn run(args: &Draw, out: &mut Out) -> Result<Status, End> {
@@ -15,15 +16,33 @@ pub fn run(args: &Draw, out: &mut Out) -> Result<Status, End> {
     let mut workspace = Workspace::new();
     let surveyed = Surveyed::new(&model, &mut workspace)?;
     let verdict = search(ready, &model, &mut workspace)?;
-    let (said, run) = match &verdict {
-        Verdict::Found { run, .. } => ("found", Some(run)),
-        _ => ("none", None),
+    if args.warnings.told() {
+        tell_warnings(&called(&args.model.path), &surveyed.of_model());
+        tell_warnings(&verdict.typed().called(), &surveyed.of_verdict(&verdict)?);
+    }
+    let run = match &verdict {
+        Verdict::Found { run, .. } => Some(run),
+        _ => None,
     };
+    out.text(&dot::model(&model, &surveyed, &title(&verdict), run))?;
+    Ok(Status::Nothing)
+}
+
+/// The rule as it was typed, and what became of it.
+fn title(verdict: &Verdict) -> String {
     let typed = verdict.typed();
-    let title = match &typed.name {
+    let said = said(verdict);
+    match &typed.name {
         Some(name) => format!("{name}: {}: {said}", typed.text),
         None => format!("{}: {said}", typed.text),
-    };
-    out.text(&dot::model(&model, &surveyed, &title, run))?;
-    Ok(Status::Nothing)
+    }
+}
+
+/// What became of a rule. One that met no pair was not tried, and a picture of it should not look as if it was.
+fn said(verdict: &Verdict) -> &'static str {
+    match verdict {
+        Verdict::Found { .. } => "found",
+        Verdict::None { pairs: 0, .. } => "none, never tried",
+        _ => "none",
+    }
 }

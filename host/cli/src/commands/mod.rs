@@ -12,9 +12,10 @@ mod text;
 use crate::args::{Command, NamesFrom, Where};
 use crate::files;
 use crate::names::Names;
-use crate::output::Out;
+use crate::output::{warn, Out};
 use crate::rules::{argument, Ready};
 use crate::trouble::{End, Trouble};
+use crate::warnings::Warning;
 use crate::Status;
 
 /// Runs a command.
@@ -45,4 +46,11 @@ fn names(from: &NamesFrom) -> Result<Names, Trouble> {
 fn rule(text: &str, names: &Names, place: &Where) -> Result<Ready, Trouble> {
     let typed = argument(RULE, text);
     Ready::read(&typed, names, place.anywhere).map_err(|refused| refused.trouble)
+}
+
+/// Tells the warnings of a model or of a rule, which is called so.
+fn tell_warnings(of: &str, warnings: &[Warning]) {
+    for warning in warnings {
+        warn(format!("{of}: {warning}"));
+    }
 }

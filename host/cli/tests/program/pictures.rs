@@ -30,7 +30,7 @@ fn graphviz_takes_every_kind_of_picture() {
         "gongcollar model example.gcm --dot",
         "gongcollar table '{{(p0|!p1)}[*2..3];p2[=1..2]}' --dot",
         "gongcollar table '{{(p0|!p1)}[*2..3];p2[=1..2]}' --dot --trim",
-        "gongcollar draw half.txt --rule 'a: {expire;thin}'",
+        "gongcollar draw half.txt --rule 'a: {expire;thin}' --no-warnings",
         "gongcollar draw jobs.txt --rule '{thin;write}' --anywhere",
         "gongcollar draw jobs.txt --rule '{expire}[*15..15]'",
         "gongcollar model scheduler.txt --dot",
@@ -69,7 +69,7 @@ fn graphviz_takes_generated_models() {
         folder.write("model.gcm", models::accepted(&mut draws));
         drawn(
             &folder,
-            "gongcollar draw model.gcm --rule '{{true}[*];{true}[*3..15]}'",
+            "gongcollar draw model.gcm --rule '{{true}[*];{true}[*3..15]}' --no-warnings",
         );
     }
 }
