@@ -1,6 +1,7 @@
 //! Files and standard input, read whole or not at all.
 
 use crate::model::Model;
+use crate::output::warn;
 use crate::trouble::Trouble;
 use std::fs::File;
 use std::io::{self, Read};
@@ -49,9 +50,22 @@ fn whole(path: &Path, most: u64) -> Result<Vec<u8>, Trouble> {
     }
 }
 
+/// Warns of a last line that has no newline: its end may be missing, and what is left may be good too.
+pub fn warn_if_cut(source: &str, bytes: &[u8]) {
+    if !bytes.is_empty() && !bytes.ends_with(b"\n") {
+        warn(format!(
+            "{source}: the last line has no newline: it may be cut off"
+        ));
+    }
+}
+
 /// A whole file as text; the hint helps where it is none.
-fn text(path: &Path, most: u64, hint: &str) -> Result<String, Trouble> {
-    String::from_utf8(whole(path, most)?).map_err(|error| {
+fn text(path: &Path, most: u64, hint: &str, warns: bool) -> Result<String, Trouble> {
+    let bytes = whole(path, most)?;
+    if warns {
+        warn_if_cut(&called(path), &bytes);
+    }
+    String::from_utf8(bytes).map_err(|error| {
         let good = error.utf8_error().valid_up_to();
         let line = error.as_bytes()[..good]
             .iter()
@@ -62,8 +76,8 @@ fn text(path: &Path, most: u64, hint: &str) -> Result<String, Trouble> {
     })
 }
 
-/// The model of a file: its bytes if that is said or the file ends in `.gcm`, else its text.
-pub fn model(path: &Path, bytes: bool) -> Result<Model, Trouble> {
+/// The model of a file: its bytes if that is said or the file ends in `.gcm`, else its text, perhaps with a warning.
+pub fn model(path: &Path, bytes: bool, warns: bool) -> Result<Model, Trouble> {
     let source = called(path);
     if bytes
         || path
@@ -73,10 +87,11 @@ pub fn model(path: &Path, bytes: bool) -> Result<Model, Trouble> {
         return Model::from_bytes(&source, &whole(path, MODEL_BYTES)?);
     }
     let hint = "a model's bytes are read with --bytes, or from a file that ends in .gcm";
-    Model::from_text(&source, &text(path, MODEL_BYTES, hint)?)
+    Model::from_text(&source, &text(path, MODEL_BYTES, hint, warns)?)
 }
 
-/// The text of a file of rules.
-pub fn rules(path: &Path) -> Result<String, Trouble> {
-    text(path, RULES_BYTES, "expected a line for each rule, in UTF-8")
+/// The text of a file of rules, perhaps with a warning.
+pub fn rules(path: &Path, warns: bool) -> Result<String, Trouble> {
+    let hint = "expected a line for each rule, in UTF-8";
+    text(path, RULES_BYTES, hint, warns)
 }

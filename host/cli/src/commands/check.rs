@@ -18,7 +18,8 @@ use indicatif::{ProgressBar, ProgressDrawTarget, ProgressStyle};
 const MANY: usize = 100;
 
 pub fn run(args: &Check, out: &mut Out) -> Result<Status, End> {
-    let model = files::model(&args.model.path, args.model.bytes)?;
+    let warns = args.warnings.told();
+    let model = files::model(&args.model.path, args.model.bytes, warns)?;
     let rules = typed(args)?;
     let mut checker = Checker::new(args, &model)?;
     let of_model = match checker.warns {
@@ -59,7 +60,8 @@ fn typed(args: &Check) -> Result<Vec<Typed>, Trouble> {
                 "model and rules cannot both come from standard input",
             ));
         }
-        typed.extend(rules::file(&called(path), &files::rules(path)?)?);
+        let text = files::rules(path, args.warnings.told())?;
+        typed.extend(rules::file(&called(path), &text)?);
     }
     Ok(typed)
 }

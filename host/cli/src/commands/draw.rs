@@ -11,12 +11,13 @@ use crate::{dot, Status};
 use gongcollar::Workspace;
 
 pub fn run(args: &Draw, out: &mut Out) -> Result<Status, End> {
-    let model = files::model(&args.model.path, args.model.bytes)?;
+    let warns = args.warnings.told();
+    let model = files::model(&args.model.path, args.model.bytes, warns)?;
     let ready = rule(&args.rule, model.names(), &args.place)?;
     let mut workspace = Workspace::new();
     let surveyed = Surveyed::new(&model, &mut workspace)?;
     let verdict = search(ready, &model, &mut workspace)?;
-    if args.warnings.told() {
+    if warns {
         tell_warnings(&called(&args.model.path), &surveyed.of_model());
         tell_warnings(&verdict.typed().called(), &surveyed.of_verdict(&verdict)?);
     }

@@ -146,6 +146,7 @@ impl Lines {
         if bytes.len() as u64 == LINE_BYTES && !bytes.ends_with(b"\n") {
             return Err(bad("is too long for an event"));
         }
+        files::warn_if_cut(&self.source, &bytes);
         let text = String::from_utf8(bytes).map_err(|_| bad("is no text"))?;
         Ok(Some(Line {
             source: self.source.clone(),

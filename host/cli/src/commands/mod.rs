@@ -37,7 +37,7 @@ const RULE: &str = "rule";
 
 fn names(from: &NamesFrom) -> Result<Names, Trouble> {
     match &from.names {
-        Some(path) => Ok(files::model(path, false)?.names().clone()),
+        Some(path) => Ok(files::model(path, false, true)?.names().clone()),
         None => Ok(Names::default()),
     }
 }

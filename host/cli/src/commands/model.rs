@@ -9,7 +9,7 @@ use crate::{dot, files, Status};
 use gongcollar::Workspace;
 
 pub fn run(args: &ShowModel, out: &mut Out) -> Result<Status, End> {
-    let model = files::model(&args.model.path, args.model.bytes)?;
+    let model = files::model(&args.model.path, args.model.bytes, true)?;
     if args.hex {
         out.text(&hexadecimal(model.bytes()))?;
     } else if args.raw {
