@@ -2,7 +2,7 @@
  * drawn, searches a model that two formulas give, follows events by the rule's table and by its rows, and steps a walker
  * for each of two clinics. From the repository's root:
  *
- *     rt staticlib exports
+ *     tools/staticlib
  *     cc -Iinclude examples/check.c target/staticlib/libexports.a -o target/check && target/check
  */
 #include "gongcollar.h"

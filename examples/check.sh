@@ -4,7 +4,7 @@
 #
 #     examples/check.sh ["RULE" ["MODEL"]]
 #
-# Needs rulecheck and ruletext, which `rt check rulecheck ruletext` builds in the repository's root. RULECHECK and
+# Needs rulecheck and ruletext, which `tools/programs` in the repository's root puts into target/bin. RULECHECK and
 # RULETEXT name others.
 set -euf
 root=$(CDPATH='' cd -- "$(dirname -- "$0")/.." && pwd)
@@ -40,7 +40,7 @@ whole_line() {
 }
 
 for program in "$rulecheck" "$ruletext"; do
-    [ -x "$program" ] || stop "there is no program $program: run 'rt check rulecheck ruletext' in $root"
+    [ -x "$program" ] || stop "there is no program $program: run 'tools/programs' in $root"
 done
 
 rule=$(printf %s "$text" | "$ruletext" | whole_line) || stop "ruletext gave no answer"

@@ -8,7 +8,7 @@ use std::process::exit;
 const FOLDER_VARIABLE: &str = "GONGCOLLAR_LIB";
 const LIBRARY: &str = "exports";
 
-/// The folder of the static library: the one that is named, or where `rt staticlib exports` writes it.
+/// The folder of the static library: the one that is named, or where `tools/staticlib` puts it.
 fn folder() -> PathBuf {
     match env::var_os(FOLDER_VARIABLE) {
         Some(named) => PathBuf::from(named),
@@ -26,7 +26,7 @@ fn main() {
             "gongcollar: there is no proved library at {}",
             archive.display()
         );
-        eprintln!("gongcollar: run `rt staticlib {LIBRARY}` in the repository's root,");
+        eprintln!("gongcollar: run `tools/staticlib` in the repository's root,");
         eprintln!("gongcollar: or name the folder that has lib{LIBRARY}.a in {FOLDER_VARIABLE}");
         exit(1);
     }

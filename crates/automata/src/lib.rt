@@ -1,4 +1,5 @@
 // The automaton of a rule as a table has it: its cells, its final states and its shape.
+#![tactic(auto)]
 
 pub mod step; // whether a letter leads from one state to another
 pub mod cells; // the label from one state to another

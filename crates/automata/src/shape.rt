@@ -17,7 +17,7 @@ const EMPTY_FINALS: u64 = 1;
 pub const LETTER_FINALS: u64 = 2;
 
 // Where a rule ends in the bytes, how many states its table has, and which of them are final.
-#[derive(Drop)]
+#[derive(Clone, Copy)]
 pub struct Shape {
     pub end: usize,
     pub weight: usize,

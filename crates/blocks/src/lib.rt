@@ -1,4 +1,5 @@
 // Fills a table in place: the labels of each operator over the blocks of its operands.
+#![tactic(auto)]
 
 pub mod clear; // no label
 pub mod link; // `;` and the repetitions

@@ -16,7 +16,7 @@ const COPIED_STATES: usize = 34;
 pub const COPY_ENTRIES: usize = STATES * COPIED_STATES;
 
 // The pairs that stand at base in the table, of m states and n. The first operand stands in a copy at 0, and the second at `second`.
-#[derive(Drop)]
+#[derive(Clone, Copy)]
 pub struct Pairs {
     pub base: usize,
     pub m: usize,

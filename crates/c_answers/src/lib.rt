@@ -1,5 +1,6 @@
 // The answers of the C interface that include/gongcollar.h declares: structs of numbers, and the numbers of each answer of the library.
 // `refused` is 0 for an answer, else the refusal's number with its place, and the rest is 0.
+#![tactic(auto)]
 
 pub mod reading; // a rule, a model
 pub mod modelling; // the model of two formulas

@@ -8,7 +8,7 @@ use walkers::{Step, StepAnswer, Walker};
 
 // A walker as the host keeps it; of `matched` it matters whether it is 0.
 #[repr(C)]
-#[derive(Drop)]
+#[derive(Clone, Copy)]
 pub struct GcWalker {
     pub set: u64,
     pub finals: u64,

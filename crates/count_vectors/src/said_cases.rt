@@ -1,6 +1,7 @@
 // What is accepted: the plain judge and the table that is followed, one after the other.
 use crate::show;
 use judge::JudgeAnswer;
+use std::io;
 use tables::TableAnswer;
 use walkers::FollowAnswer;
 
@@ -8,135 +9,162 @@ use walkers::FollowAnswer;
 const NESTED: [u8; 253] =
     *b"\x19\x0f\x0f\x19\x04\x04\x19\x01\x01\x19\x01\x01\x19\x01\x01\x19\x01\x01\x19\x01\x01\x19\x01\x01\x19\x01\x01\x19\x01\x01\x19\x01\x01\x19\x01\x01\x19\x01\x01\x19\x01\x01\x19\x01\x01\x19\x01\x01\x19\x01\x01\x19\x01\x01\x19\x01\x01\x19\x01\x01\x19\x01\x01\x19\x01\x01\x19\x01\x01\x19\x01\x01\x19\x01\x01\x19\x01\x01\x19\x01\x01\x19\x01\x01\x19\x01\x01\x19\x01\x01\x19\x01\x01\x19\x01\x01\x19\x01\x01\x19\x01\x01\x19\x01\x01\x19\x01\x01\x19\x01\x01\x19\x01\x01\x19\x01\x01\x19\x01\x01\x19\x01\x01\x19\x01\x01\x19\x01\x01\x19\x01\x01\x19\x01\x01\x19\x01\x01\x19\x01\x01\x19\x01\x01\x19\x01\x01\x19\x01\x01\x19\x01\x01\x19\x01\x01\x19\x01\x01\x19\x01\x01\x19\x01\x01\x19\x01\x01\x19\x01\x01\x19\x01\x01\x19\x01\x01\x19\x01\x01\x19\x01\x01\x19\x01\x01\x19\x01\x01\x19\x01\x01\x19\x01\x01\x19\x01\x01\x19\x01\x01\x19\x01\x01\x19\x01\x01\x19\x01\x01\x19\x01\x01\x19\x01\x01\x19\x01\x01\x19\x01\x01\x19\x01\x01\x19\x01\x01\x19\x01\x01\x19\x01\x01\x19\x01\x01\x19\x01\x01\x19\x01\x01\x19\x01\x01\x19\x01\x01\x19\x01\x01\x11";
 
-fn said(yes: bool) {
+fn said(rt: &impl Print, yes: bool) -> io::Result<()> {
     if yes {
-        show::text(b" yes");
+        show::text(rt, b" yes")?;
     } else {
-        show::text(b" no");
+        show::text(rt, b" no")?;
     }
+    Ok(())
 }
 
-fn judge_says(rule: &[u8], letters: &[u8]) {
+fn judge_says(rt: &impl Print, rule: &[u8], letters: &[u8]) -> io::Result<()> {
     match judge::judge(rule, letters) {
-        JudgeAnswer::Judged { accepts, rule: _ } => said(accepts),
-        JudgeAnswer::Refused(x) => show::refused(x.number(), x.place()),
+        JudgeAnswer::Judged { accepts, rule: _ } => said(rt, accepts)?,
+        JudgeAnswer::Refused(x) => show::refused(rt, x.number(), x.place())?,
     }
+    Ok(())
 }
 
-fn followed(table: &[u64], finals: u64, letters: &[u8]) {
+fn followed(rt: &impl Print, table: &[u64], finals: u64, letters: &[u8]) -> io::Result<()> {
     match walkers::follow(table, finals, letters) {
-        FollowAnswer::Ended(matched) => said(matched),
-        FollowAnswer::Refused(x) => show::refused(x.number(), x.place()),
+        FollowAnswer::Ended(matched) => said(rt, matched)?,
+        FollowAnswer::Refused(x) => show::refused(rt, x.number(), x.place())?,
     }
+    Ok(())
 }
 
-fn table_says(rule: &[u8], letters: &[u8], table: &mut [u64]) {
+fn table_says(rt: &impl Print, rule: &[u8], letters: &[u8], table: &mut [u64]) -> io::Result<()> {
     match tables::build(rule, table) {
-        TableAnswer::Tabled { rule: _, finals } => followed(table, finals, letters),
-        TableAnswer::Refused(x) => show::refused(x.number(), x.place()),
+        TableAnswer::Tabled { rule: _, finals } => followed(rt, table, finals, letters)?,
+        TableAnswer::Refused(x) => show::refused(rt, x.number(), x.place())?,
     }
+    Ok(())
 }
 
-fn both(name: &[u8], rule: &[u8], letters: &[u8], table: &mut [u64]) {
-    show::text(name);
-    show::text(b":");
-    judge_says(rule, letters);
-    table_says(rule, letters, table);
-    show::text(b"\n");
+fn both(
+    rt: &impl Print,
+    name: &[u8],
+    rule: &[u8],
+    letters: &[u8],
+    table: &mut [u64],
+) -> io::Result<()> {
+    show::text(rt, name)?;
+    show::text(rt, b":")?;
+    judge_says(rt, rule, letters)?;
+    table_says(rt, rule, letters, table)?;
+    show::text(rt, b"\n")
 }
 
-fn expiries(table: &mut [u64]) {
+fn expiries(rt: &impl Print, table: &mut [u64]) -> io::Result<()> {
     let rule = b"\x19\x03\x05\x10\x01\x00";
-    both(b"{p0}[*3..5] on [1 1]", rule, b"\x01\x01", table);
-    both(b"{p0}[*3..5] on [1 1 1]", rule, b"\x01\x01\x01", table);
+    both(rt, b"{p0}[*3..5] on [1 1]", rule, b"\x01\x01", table)?;
+    both(rt, b"{p0}[*3..5] on [1 1 1]", rule, b"\x01\x01\x01", table)?;
     both(
+        rt,
         b"{p0}[*3..5] on [1 1 0 1]",
         rule,
         b"\x01\x01\x00\x01",
         table,
-    );
+    )?;
     both(
+        rt,
         b"{p0}[*3..5] on [1 1 1 1 1]",
         rule,
         b"\x01\x01\x01\x01\x01",
         table,
-    );
+    )?;
     both(
+        rt,
         b"{p0}[*3..5] on [1 1 1 1 1 1]",
         rule,
         b"\x01\x01\x01\x01\x01\x01",
         table,
-    );
+    )
 }
 
-fn anywhere(table: &mut [u64]) {
+fn anywhere(rt: &impl Print, table: &mut [u64]) -> io::Result<()> {
     let rule = b"\x1A\x03\x05\x01\x00";
-    both(b"p0[=3..5] on [1 0 1 0]", rule, b"\x01\x00\x01\x00", table);
     both(
+        rt,
+        b"p0[=3..5] on [1 0 1 0]",
+        rule,
+        b"\x01\x00\x01\x00",
+        table,
+    )?;
+    both(
+        rt,
         b"p0[=3..5] on [2 1 0 1 1 0]",
         rule,
         b"\x02\x01\x00\x01\x01\x00",
         table,
-    );
+    )?;
     both(
+        rt,
         b"p0[=3..5] on [1 1 1 1 1]",
         rule,
         b"\x01\x01\x01\x01\x01",
         table,
-    );
+    )?;
     both(
+        rt,
         b"p0[=3..5] on [1 1 1 0 1 1 1]",
         rule,
         b"\x01\x01\x01\x00\x01\x01\x01",
         table,
-    );
+    )
 }
 
-fn empty_parts(table: &mut [u64]) {
-    both(b"{[*0]}[*3..3] on []", b"\x19\x03\x03\x11", b"", table);
+fn empty_parts(rt: &impl Print, table: &mut [u64]) -> io::Result<()> {
+    both(rt, b"{[*0]}[*3..3] on []", b"\x19\x03\x03\x11", b"", table)?;
     both(
+        rt,
         b"{{p0}[*]}[*2..2] on [1]",
         b"\x19\x02\x02\x17\x10\x01\x00",
         b"\x01",
         table,
-    );
+    )?;
     both(
+        rt,
         b"{p0}[*0..0] on []",
         b"\x19\x00\x00\x10\x01\x00",
         b"",
         table,
-    );
+    )?;
     both(
+        rt,
         b"{p0}[*0..0] on [1]",
         b"\x19\x00\x00\x10\x01\x00",
         b"\x01",
         table,
-    );
+    )
 }
 
-fn no_letters(table: &mut [u64]) {
-    both(b"p0[=0..0] on []", b"\x1A\x00\x00\x01\x00", b"", table);
+fn no_letters(rt: &impl Print, table: &mut [u64]) -> io::Result<()> {
+    both(rt, b"p0[=0..0] on []", b"\x1A\x00\x00\x01\x00", b"", table)?;
     both(
+        rt,
         b"p0[=0..0] on [0 1]",
         b"\x1A\x00\x00\x01\x00",
         b"\x00\x01",
         table,
-    );
+    )
 }
 
-fn nested(table: &mut [u64]) {
+fn nested(rt: &impl Print, table: &mut [u64]) -> io::Result<()> {
     both(
+        rt,
         b"84 nested counts on 16 letters",
         &NESTED,
         b"\x01\x01\x01\x01\x01\x01\x01\x01\x01\x01\x01\x01\x01\x01\x01\x01",
         table,
-    );
+    )
 }
 
-pub fn run(table: &mut [u64]) {
-    expiries(table);
-    anywhere(table);
-    empty_parts(table);
-    no_letters(table);
-    nested(table);
+pub fn run(rt: &impl Print, table: &mut [u64]) -> io::Result<()> {
+    expiries(rt, table)?;
+    anywhere(rt, table)?;
+    empty_parts(rt, table)?;
+    no_letters(rt, table)?;
+    nested(rt, table)
 }

@@ -5,7 +5,7 @@ ghost use Rattle.definitions.specs.Encoding.{CountsAs};
 
 const LARGEST_COUNT: u8 = 15;
 
-#[derive(Drop)]
+#[derive(Clone, Copy)]
 pub struct Counts {
     pub low: usize,
     pub high: usize,

@@ -3,7 +3,7 @@ ghost use Rattle.std.specs.Prelude.{◌≡◌};
 ghost use Rattle.definitions.specs.Kinds.{kind_of};
 
 // The connectives of two formulas.
-#[derive(Drop)]
+#[derive(Clone, Copy)]
 pub enum Junction {
     And,
     Or,
@@ -19,7 +19,7 @@ pub enum FormulaKind {
 }
 
 // The operators of two rules: `;` `:` `|` `&` `&&`.
-#[derive(Drop)]
+#[derive(Clone, Copy)]
 pub enum Pair {
     Then,
     Overlap,

@@ -1,4 +1,6 @@
 // The papers' definitions and the house form: what a kind byte says, the counts after it, and why a rule is refused.
+#![tactic(auto)]
+
 ghost use Rattle.std.specs.Prelude.{◌≡◌};
 ghost use Rattle.definitions.specs.Refusals.{number, place};
 
@@ -7,7 +9,7 @@ pub mod counts; // the two counts after a kind byte
 pub mod numbers; // the numbers of the refusals that several calls share
 
 // Why a rule is refused; the variants stand in the order of their numbers, 1 to 8, and hold their places.
-#[derive(Drop)]
+#[derive(Clone, Copy)]
 pub enum Refusal {
     TooLong,
     Ended(usize),

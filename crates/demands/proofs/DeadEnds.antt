@@ -1,16 +1,14 @@
 -- What request 2026-06 asks holds. Assumes nothing.
 use Prim.Native.Nat.{ℕ}
 use native.Mathlib.Omega.{arith}
-use mathlib.Core.Path.{◌≡◌, refl, ap}
-use mathlib.Core.List.{List}
-use Rattle.models.specs.Answer as models
+use mathlib.Core.Path.{◌≡◌, ap}
 use Rattle.models.specs.Faults.{ModelFault}
 use Rattle.models.proofs.Faulting.{model_fault, fault_model}
 use Rattle.lasting.specs.Answer.{Result, lasts, refused, LastingRight, model_refused, lasting}
 use Rattle.lasting.proofs.Ways.{lasting_runs}
 use Rattle.lasting.proofs.Once as lasting-once
 use Rattle.search.proofs.Carrying.{right_lasting, lasting_right}
-use Rattle.demands.specs.DeadEnds.{RunsOfTheRest, AnswersOfTheRest, EveryModelLasts, LastingRefusedExactly, DeadEnds}
+use Rattle.demands.specs.DeadEnds.{AnswersOfTheRest, EveryModelLasts, LastingRefusedExactly, DeadEnds}
 
 pub answers_of_the_rest : AnswersOfTheRest
 answers_of_the_rest M w h A f a = (lasting_right M w h A f a, right_lasting M w h A f a)

@@ -1,5 +1,5 @@
 -- What request 2026-08 asks holds. Assumes nothing.
-use Prim.Native.Nat.{ℕ, ◌+◌, ◌*◌, ◌<◌, ◌≤◌}
+use Prim.Native.Nat.{ℕ, ◌≤◌}
 use native.Mathlib.Omega.{arith}
 use mathlib.Core.Path.{◌≡◌, refl, sym, ap, ap₂, subst, ◌∙◌}
 use mathlib.Core.Bool.{Bool, true}
@@ -7,10 +7,8 @@ use mathlib.Core.Logic.{◌↔◌}
 use mathlib.Core.List.{List, ◌++◌}
 use lib.ListN.{length, take, drop, length-append, length-drop}
 use lib.Seq.{drop_at}
-use Rattle.definitions.specs.Definition1.{Formula, prop}
+use Rattle.definitions.specs.Definition1.{Formula}
 use Rattle.definitions.specs.Definition2.{holds}
-use Rattle.models.specs.Answer as models
-use Rattle.models.specs.Stored.{model_of}
 use Rattle.systems.specs.Answer.{AcceptedAs}
 use Rattle.systems.proofs.Accepting.{accepted_spelling, accepted_once}
 use Rattle.systems.proofs.Faulting.{refused_line, line_refused}

@@ -15,7 +15,6 @@ use Rattle.bits.proofs.Resting.{in_word}
 use Rattle.automata.specs.Table.{table_of, cell}
 use Rattle.automata.proofs.TableOf.{edge_out, edge_in}
 use Rattle.tables.specs.Beyond.{Beyond}
-use Rattle.walkers.specs.declared.Walker.{Walker}
 use Rattle.walkers.proofs.Once as walkers-once
 use Rattle.letter_rows.specs.Layouts.{table_by}
 use Rattle.letter_rows.specs.Answer as rows
@@ -25,7 +24,7 @@ use Rattle.letter_rows.proofs.Once as rows-once
 use Rattle.row_walkers.proofs.Alike as alike
 use Rattle.demands.specs.CallFaults.{StepFault, FollowFault, ConvertFault}
 use Rattle.demands.specs.CallFaults as faults
-use Rattle.demands.specs.LetterRows.{RowsStored, TableStored, RowsRefusedExactly, TableRefusedExactly, RefusedRowsKeep, RefusedTableKeeps, StepSame, LentStepSame, FollowSame, ShortSame, StepRowsRefusedExactly, FollowRowsRefusedExactly, RuleRowsFollowed, RuleRowsRemembered, SearchRowsSame, LetterRows}
+use Rattle.demands.specs.LetterRows.{RowsStored, TableStored, RowsRefusedExactly, TableRefusedExactly, StepSame, LentStepSame, FollowSame, ShortSame, StepRowsRefusedExactly, FollowRowsRefusedExactly, RuleRowsFollowed, RuleRowsRemembered, SearchRowsSame, LetterRows}
 use Rattle.demands.proofs.CallFaults.{step_fault, follow_fault}
 use Rattle.demands.proofs.Demand2 as demand_2
 use Rattle.demands.proofs.Walkers as walkers

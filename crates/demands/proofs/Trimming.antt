@@ -23,8 +23,7 @@ use Rattle.trimmed_search.specs.Answer.{TrimmedSearches, TrimmedSearchRight}
 use Rattle.trimmed_search.proofs.Once.{one_trimmed_answer}
 use Rattle.trimmed_search.proofs.Alike.{search_alike}
 use Rattle.demands.specs.Terms.{model_in_of}
-use Rattle.demands.specs.Demand2.{TableFor}
-use Rattle.demands.specs.Trimming.{SameSequences, AgainNothing, AllWork, NothingIsOneState, TrimLeaves, TrimRefusedExactly, RefusedTrimKeeps, RuleTablesTrimmed, RunAndRefusalsSame, TrimmedSearch, EveryTrimmedAnswered, TrimmedFindExactly, TrimmedRunIsFirst, TrimmedCounts, TrimmedFindCounts, TrimmedNoneCounts, TrimmedRefusedExactly, RefusedTrimmedKeeps, TrimmedLeaves, Trimming}
+use Rattle.demands.specs.Trimming.{SameSequences, AgainNothing, AllWork, NothingIsOneState, TrimLeaves, RefusedTrimKeeps, RuleTablesTrimmed, RunAndRefusalsSame, TrimmedSearch, EveryTrimmedAnswered, TrimmedFindExactly, TrimmedRunIsFirst, TrimmedFindCounts, TrimmedNoneCounts, TrimmedRefusedExactly, RefusedTrimmedKeeps, TrimmedLeaves, Trimming}
 use Rattle.demands.proofs.Spellings.{accepted_as, same_rule}
 use Rattle.demands.proofs.CallFaults.{trim_fault, call_fault}
 use Rattle.demands.proofs.Demand2.{is}

@@ -4,8 +4,7 @@ ghost use Rattle.exports.specs.Promise.{GcBuilds};
 use c_answers::building::{GcBuilt, built_numbers};
 
 // Builds the rule's table in the slice.
-#[unsafe(no_mangle)]
-pub extern "C" fn gc_build(rule: &[u8], table: &mut [u64]) -> GcBuilt
+pub fn gc_build(rule: &[u8], table: &mut [u64]) -> GcBuilt
     ensures { GcBuilds rule.now table.old table.new result }
 {
     let answer = tables::build(rule, table);

@@ -7,16 +7,14 @@ ghost use Rattle.c_answers.specs.Numbers.{moved_numbers_of};
 use c_answers::following::{GcMoved, moved_numbers};
 
 // Follows the letters over the table from state 0.
-#[unsafe(no_mangle)]
-pub extern "C" fn gc_follow(table: &[u64], finals: u64, letters: &[u8]) -> GcMoved
+pub fn gc_follow(table: &[u64], finals: u64, letters: &[u8]) -> GcMoved
     ensures { result ≡ moved_numbers_of (follow_of table.now finals letters.now) }
 {
     moved_numbers(walkers::follow(table, finals, letters))
 }
 
 // Follows the letters over rows by letter from state 0.
-#[unsafe(no_mangle)]
-pub extern "C" fn gc_follow_rows(rows: &[u64], finals: u64, letters: &[u8]) -> GcMoved
+pub fn gc_follow_rows(rows: &[u64], finals: u64, letters: &[u8]) -> GcMoved
     ensures { result ≡ moved_numbers_of (follow_of (table_by rows.now) finals letters.now) }
 {
     moved_numbers(row_walkers::sequences::follow_rows(rows, finals, letters))

@@ -4,8 +4,7 @@ ghost use Rattle.exports.specs.Promise.{GcLasting};
 use c_answers::lasting_states::{GcLasts, lasting_numbers};
 
 // Finds the states of the model from which an endless run leaves.
-#[unsafe(no_mangle)]
-pub extern "C" fn gc_lasting(model: &[u8]) -> GcLasts
+pub fn gc_lasting(model: &[u8]) -> GcLasts
     ensures { GcLasting model.now result }
 {
     lasting_numbers(lasting::lasting(model))

@@ -7,16 +7,14 @@ ghost use Rattle.c_answers.specs.Numbers.{rule_numbers_of, model_numbers_of};
 use c_answers::reading::{GcModel, GcRule, model_numbers, rule_numbers};
 
 // Reads a rule.
-#[unsafe(no_mangle)]
-pub extern "C" fn gc_read_rule(rule: &[u8]) -> GcRule
+pub fn gc_read_rule(rule: &[u8]) -> GcRule
     ensures { result ≡ rule_numbers_of (rules.answer rule.now) }
 {
     rule_numbers(rules::read_rule(rule))
 }
 
 // Reads a model.
-#[unsafe(no_mangle)]
-pub extern "C" fn gc_read_model(model: &[u8]) -> GcModel
+pub fn gc_read_model(model: &[u8]) -> GcModel
     ensures { result ≡ model_numbers_of (models.answer model.now) }
 {
     let read = models::read_model(model);

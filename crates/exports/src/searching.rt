@@ -5,8 +5,7 @@ ghost use Rattle.exports.specs.Promise.{GcSearches, GcSearchesTrimmed};
 use c_answers::searching::{GcSearched, searched_numbers};
 
 // Searches the model for the rule.
-#[unsafe(no_mangle)]
-pub extern "C" fn gc_search(
+pub fn gc_search(
     rule: &[u8],
     model: &[u8],
     table: &mut [u64],
@@ -21,8 +20,7 @@ pub extern "C" fn gc_search(
 }
 
 // The same over the trimmed table of the rule.
-#[unsafe(no_mangle)]
-pub extern "C" fn gc_search_trimmed(
+pub fn gc_search_trimmed(
     rule: &[u8],
     model: &[u8],
     table: &mut [u64],

@@ -26,32 +26,28 @@ fn stepped_rows(walker: GcWalker, rows: &[u64], letter: u8) -> Stepping
 }
 
 // A fresh walker.
-#[unsafe(no_mangle)]
-pub extern "C" fn gc_start(finals: u64) -> GcWalker
+pub fn gc_start(finals: u64) -> GcWalker
     ensures { result ≡ walker_numbers_of (walkers.start_of finals) }
 {
     walker_numbers(Walker::start(finals))
 }
 
 // Steps a walker over the table by the letter, and gives it back.
-#[unsafe(no_mangle)]
-pub extern "C" fn gc_step(walker: GcWalker, table: &[u64], letter: u8) -> GcStepped
+pub fn gc_step(walker: GcWalker, table: &[u64], letter: u8) -> GcStepped
     ensures { result ≡ stepped_numbers_of walker (walkers.step_of table.now (walker_from walker) letter) }
 {
     given_back(stepped(walker, table, letter))
 }
 
 // Steps a walker over rows by letter, and gives it back.
-#[unsafe(no_mangle)]
-pub extern "C" fn gc_step_rows(walker: GcWalker, rows: &[u64], letter: u8) -> GcStepped
+pub fn gc_step_rows(walker: GcWalker, rows: &[u64], letter: u8) -> GcStepped
     ensures { result ≡ stepped_numbers_of walker (walkers.step_of (table_by rows.now) (walker_from walker) letter) }
 {
     given_back(stepped_rows(walker, rows, letter))
 }
 
 // Steps a walker where it stands.
-#[unsafe(no_mangle)]
-pub extern "C" fn gc_step_lent(walker: &mut GcWalker, table: &[u64], letter: u8) -> GcMoved
+pub fn gc_step_lent(walker: &mut GcWalker, table: &[u64], letter: u8) -> GcMoved
     ensures { beside walker.new result ≡ stepped_numbers_of walker.old (walkers.step_of table.now (walker_from walker.old) letter) }
 {
     let s = stepped(*walker, table, letter);

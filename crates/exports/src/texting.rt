@@ -4,8 +4,7 @@ ghost use Rattle.exports.specs.Promise.{ReadsText, WritesText};
 use c_answers::texting::{GcText, text_numbers};
 
 // Reads a text into the bytes of its rule.
-#[unsafe(no_mangle)]
-pub extern "C" fn gc_read_text(text: &[u8], out: &mut [u8]) -> GcText
+pub fn gc_read_text(text: &[u8], out: &mut [u8]) -> GcText
     ensures { ReadsText text.now out.old out.new result }
 {
     let answer = texts::read_text(text, out);
@@ -13,8 +12,7 @@ pub extern "C" fn gc_read_text(text: &[u8], out: &mut [u8]) -> GcText
 }
 
 // Writes the text of a rule's bytes.
-#[unsafe(no_mangle)]
-pub extern "C" fn gc_write_text(rule: &[u8], out: &mut [u8]) -> GcText
+pub fn gc_write_text(rule: &[u8], out: &mut [u8]) -> GcText
     ensures { WritesText rule.now out.old out.new result }
 {
     let answer = texts::write_text(rule, out);

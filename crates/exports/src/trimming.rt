@@ -4,8 +4,7 @@ ghost use Rattle.exports.specs.Promise.{GcTrims};
 use c_answers::trimming::{GcTrimmed, trimmed_numbers};
 
 // Trims the table of that weight and those finals in the slice.
-#[unsafe(no_mangle)]
-pub extern "C" fn gc_trim(table: &mut [u64], weight: u64, finals: u64) -> GcTrimmed
+pub fn gc_trim(table: &mut [u64], weight: u64, finals: u64) -> GcTrimmed
     ensures { GcTrims table.old table.new weight finals result }
 {
     let answer = trims::trim(table, weight as usize, finals);

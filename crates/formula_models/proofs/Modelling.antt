@@ -9,20 +9,19 @@ use mathlib.Core.Logic.{◌↔◌}
 use mathlib.Core.List.{List, [], ◌∷◌, ◌++◌}
 use lib.ListN.{length, get_or, take, drop, get_or-append}
 use lib.Seq.{get_or-append-add, take_at}
-use Rattle.bits.specs.Word.{bit, num, word}
+use Rattle.bits.specs.Word.{bit, num}
 use Rattle.bits.specs.Bytes.{little}
 use Rattle.bits.proofs.Laws.{bit_word, word_lt}
 use Rattle.definitions.specs.Definition1.{Formula}
 use Rattle.definitions.specs.Definition2.{holds}
-use Rattle.models.specs.Model.{Model, model_states}
+use Rattle.models.specs.Model.{model_states}
 use Rattle.models.specs.Stored.{model_of}
 use Rattle.models.specs.Answer as models
-use Rattle.models.specs.Faults.{kind_byte, letter_byte, flag_byte, next_set, GoodRecord, Records, ModelBytes, Says}
+use Rattle.models.specs.Faults.{next_set, GoodRecord, ModelBytes}
 use Rattle.models.proofs.Faulting.{bytes_model, model_says}
 use Rattle.formula_models.specs.Meaning.{both, Means, successors}
 use Rattle.formula_models.specs.Bytes.{record_bytes, model_length, bytes_of, record_of, records, model_bytes}
-use Rattle.formula_models.specs.Answer.{written, FormulasRight, the_model}
-use Rattle.formula_models.proofs.Putting.{bytes_length, records_length}
+use Rattle.formula_models.proofs.Putting.{records_length}
 
 -- ---- a number out of its bytes
 

@@ -1,11 +1,11 @@
 -- No second answer fits the promise of `read_formulas`, and no second content of the slice. Assumes nothing.
-use Prim.Native.Nat.{ℕ, ◌<◌, ◌≤◌}
+use Prim.Native.Nat.{ℕ}
 use native.Mathlib.Omega.{arith}
 use mathlib.Core.Path.{◌≡◌, refl, sym, ap, ap₂, ◌∙◌}
 use mathlib.Core.Bool.{true}
 use mathlib.Core.List.{List, ◌++◌}
 use lib.Dec.{ltb}
-use lib.ListN.{length, drop}
+use lib.ListN.{drop}
 use borrow.Author.Tests.{ltb-true}
 use Rattle.definitions.specs.Numbers.{short_slice_number}
 use Rattle.definitions.specs.Definition1.{Formula}
@@ -22,7 +22,7 @@ use Rattle.formula_models.specs.declared.FormulasAnswer.{FormulasAnswer}
 use Rattle.formula_models.specs.declared.FormulasAnswer.TheVariants.{Written, Refused}
 use Rattle.formula_models.specs.Refusals.{number, place}
 use Rattle.formula_models.specs.Bytes.{model_length, model_bytes}
-use Rattle.formula_models.specs.Answer.{Result, written, refused, told, FormulasRight, no_system, short_model, the_model}
+use Rattle.formula_models.specs.Answer.{Result, refused, told, FormulasRight, no_system, short_model, the_model}
 
 -- a system is not refused
 pub not_refused : {s : List ℕ} {f g : Formula} {n p : ℕ} → AcceptedAs s f g → systems.answer s ≡ systems.refused n p → ⊥

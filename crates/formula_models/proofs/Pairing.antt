@@ -1,8 +1,8 @@
 -- This state and the next as one number: what a variable of either is there, and the set of successors of each form of a formula. Assumes nothing.
 use Prim.Native.Nat.{ℕ, ◌+◌, ◌*◌, ◌-◌, ◌^◌, ◌<◌, ◌≤◌}
 use native.Mathlib.Omega.{arith}
-use mathlib.Core.Path.{◌≡◌, refl, sym, ap, ap₂, ◌∙◌}
-use mathlib.Core.Bool.{Bool, true, false, not, ◌&&◌, ◌||◌}
+use mathlib.Core.Path.{◌≡◌, sym, ap, ap₂, ◌∙◌}
+use mathlib.Core.Bool.{Bool, true, false}
 use lib.Bits.{bit_or, bit_and}
 use Rattle.bits.specs.Word.{bit, word}
 use Rattle.bits.proofs.Laws.{bit_cat_low, bit_cat_high, word_lt, bit_word, word_unique, word_and, word_or, word_not, word_no_bit, word_every_bit}

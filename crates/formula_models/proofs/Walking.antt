@@ -1,15 +1,15 @@
 -- What the walk over the step's formula promises, put together from what its calls promise: one law for each arm. Assumes nothing.
-use Prim.Native.Nat.{ℕ, ◌+◌, ◌*◌, ◌-◌, ◌^◌, ◌<◌, ◌≤◌}
+use Prim.Native.Nat.{ℕ, ◌+◌, ◌-◌, ◌^◌}
 use native.Mathlib.Omega.{arith}
-use mathlib.Core.Path.{◌≡◌, refl, sym, ap, ◌∙◌}
-use mathlib.Core.Bool.{Bool, true, false}
+use mathlib.Core.Path.{◌≡◌, sym, ap, ◌∙◌}
+use mathlib.Core.Bool.{true}
 use mathlib.Core.List.{List}
-use lib.ListN.{length, get_or}
+use lib.ListN.{get_or}
 use Rattle.bits.specs.Word.{bit, word}
 use Rattle.definitions.specs.declared.kinds.Junction.{Junction}
 use Rattle.definitions.specs.declared.kinds.FormulaKind.TheVariants.{Proposition, Truth, Falsity, Not, Join}
 use Rattle.definitions.specs.Definition1.{Formula}
-use Rattle.systems.specs.declared.kinds.SystemKind.TheVariants.{Plain, Next, Elsewhere, Nothing}
+use Rattle.systems.specs.declared.kinds.SystemKind.TheVariants.{Plain, Next}
 use Rattle.systems.specs.Kinds.{kind_of}
 use Rattle.systems.specs.inner.Places.{FormulaAt}
 use Rattle.systems.proofs.Inversion.{formula_of}

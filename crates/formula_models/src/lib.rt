@@ -1,4 +1,6 @@
 // Writes the model of two formulas, one for the initial states and one for the step: its states are the 64 letters.
+#![tactic(auto)]
+
 ghost use Rattle.std.specs.Prelude.{◌≡◌};
 ghost use Rattle.formula_models.specs.Refusals.{number, place};
 ghost use Rattle.formula_models.specs.Answer.{told, FormulasRight};
@@ -13,7 +15,7 @@ mod records; // the model's bytes
 pub const MODEL_BYTES: usize = 704;
 
 // Why nothing is written.
-#[derive(Drop)]
+#[derive(Clone, Copy)]
 pub enum Refusal {
     // the formulas' own
     OfSystem(systems::Refusal),

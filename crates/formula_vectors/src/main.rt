@@ -1,11 +1,13 @@
 // Reads lines of a name, a colon and the bytes of two formulas, and prints what their model comes to in a slice of 703 bytes and in one of 720: every
 // refusal with its place, a ring of 64 states, the complete model, the one with no run, and that nothing else is touched. The file stdin holds
 // the lines, and stdout what should come out.
+#![tactic(auto)]
+
 ghost use Rattle.std.specs.Prelude.{◌+◌, ◌≤◌, length};
 
 use formula_models::{FormulasAnswer, MODEL_BYTES, read_formulas};
-use libc::STDOUT_FILENO;
 use models::{ModelAnswer, read_model};
+use std::io;
 use streams::Input;
 use writing::front;
 
@@ -19,12 +21,12 @@ const MOST_BYTES: usize = 300;
 // No digit has this value.
 const NO_DIGIT: u8 = 16;
 
-fn text(t: &[u8]) {
-    io::write_all(STDOUT_FILENO, t);
+fn text(rt: &impl Print, t: &[u8]) -> io::Result<()> {
+    rt.write_all(t)
 }
 
-fn number(n: u64) {
-    io::print_decimal(STDOUT_FILENO, n);
+fn number(rt: &impl Print, n: u64) -> io::Result<()> {
+    print!(rt; "{n}")
 }
 
 // One more, if the byte is as it was.
@@ -69,71 +71,72 @@ fn wide(byte: u8) -> u64
     byte as u64
 }
 
-fn named(name: &[u8], n: u64) {
-    text(name);
-    number(n);
+fn named(rt: &impl Print, name: &[u8], n: u64) -> io::Result<()> {
+    text(rt, name)?;
+    number(rt, n)
 }
 
 // What the record of state x says.
-fn state(model: &[u8], x: usize)
+fn state(rt: &impl Print, model: &[u8], x: usize) -> io::Result<()>
     requires { (704 ≤ length model.now) × (x ≤ 63) }
 {
-    named(b"\n  state ", x as u64);
-    named(b", letter ", wide(model[11 * x + 1]));
-    named(b", successors ", bits::word_at(model, 11 * x + 3));
+    named(rt, b"\n  state ", x as u64)?;
+    named(rt, b", letter ", wide(model[11 * x + 1]))?;
+    named(rt, b", successors ", bits::word_at(model, 11 * x + 3))
 }
 
 // Whether the reader of models accepts it, with how many states.
-fn accepted(model: &[u8]) {
+fn accepted(rt: &impl Print, model: &[u8]) -> io::Result<()> {
     let r = read_model(model);
     let answer = r.answer;
     let m = r.model;
     if let ModelAnswer::Refused(_) = answer {
-        text(b", NO MODEL");
-        return;
+        text(rt, b", NO MODEL")?;
+        return Ok(());
     }
-    named(b", states ", m.states as u64);
-    named(b", initial ", m.initial);
+    named(rt, b", states ", m.states as u64)?;
+    named(rt, b", initial ", m.initial)
 }
 
-fn show(model: &[u8])
+fn show(rt: &impl Print, model: &[u8]) -> io::Result<()>
     requires { 704 ≤ length model.now }
 {
-    accepted(front(model, MODEL_BYTES));
-    named(b", checksum ", checksum(model));
-    state(model, 0);
-    state(model, 1);
-    state(model, 62);
-    state(model, 63);
+    accepted(rt, front(model, MODEL_BYTES))?;
+    named(rt, b", checksum ", checksum(model))?;
+    state(rt, model, 0)?;
+    state(rt, model, 1)?;
+    state(rt, model, 62)?;
+    state(rt, model, 63)
 }
 
 // The formulas, read into this slice.
-fn tried(formulas: &[u8], model: &mut [u8])
+fn tried(rt: &impl Print, formulas: &[u8], model: &mut [u8]) -> io::Result<()>
     requires { length model.old ≤ 720 }
 {
-    named(b"\n  in ", model.len() as u64);
+    named(rt, b"\n  in ", model.len() as u64)?;
     match read_formulas(formulas, model) {
         FormulasAnswer::Refused(x) => {
-            named(b": refused ", x.number());
-            named(b" at ", x.place() as u64);
-            named(b", as they were ", kept(model, 0));
+            named(rt, b": refused ", x.number())?;
+            named(rt, b" at ", x.place() as u64)?;
+            named(rt, b", as they were ", kept(model, 0))?;
         }
         FormulasAnswer::Written => {
-            named(b": written, as they were ", kept(model, MODEL_BYTES));
+            named(rt, b": written, as they were ", kept(model, MODEL_BYTES))?;
             if MODEL_BYTES <= model.len() {
-                show(model);
+                show(rt, model)?;
             }
         }
     }
+    Ok(())
 }
 
 // Both slices.
-fn case(formulas: &[u8]) {
+fn case(rt: &impl Print, formulas: &[u8]) -> io::Result<()> {
     let mut short = [FILL; 703];
     let mut long = [FILL; 720];
-    tried(formulas, &mut short);
-    tried(formulas, &mut long);
-    text(b"\n");
+    tried(rt, formulas, &mut short)?;
+    tried(rt, formulas, &mut long)?;
+    text(rt, b"\n")
 }
 
 // A line as far as it is taken: whether its name is over, a first digit that waits for the second, and how many bytes there are.
@@ -163,15 +166,15 @@ fn digit(byte: u8) -> u8 {
 }
 
 // The name is printed as it comes, with its colon.
-fn in_name(line: Line, byte: u8) -> Line {
+fn in_name(rt: &impl Print, line: Line, byte: u8) -> io::Result<Line> {
     let one = [byte];
-    text(&one);
-    Line {
+    text(rt, &one)?;
+    Ok(Line {
         named: byte == b':',
         half: false,
         high: 0,
         count: line.count,
-    }
+    })
 }
 
 // One more character of the bytes.
@@ -202,37 +205,40 @@ fn in_bytes(line: Line, byte: u8, formulas: &mut [u8]) -> Line {
 }
 
 // The line is over.
-fn tried_line(line: Line, formulas: &[u8]) {
+fn tried_line(rt: &impl Print, line: Line, formulas: &[u8]) -> io::Result<()> {
     let count = line.count;
     if count <= formulas.len() {
-        case(front(formulas, count));
+        case(rt, front(formulas, count))?;
     }
+    Ok(())
 }
 
-fn taken(line: Line, byte: u8, formulas: &mut [u8]) -> Line {
+fn taken(rt: &impl Print, line: Line, byte: u8, formulas: &mut [u8]) -> io::Result<Line> {
     if byte == b'\n' {
-        tried_line(line, formulas);
-        return begun();
+        tried_line(rt, line, formulas)?;
+        return Ok(begun());
     }
     if line.named {
-        return in_bytes(line, byte, formulas);
+        return Ok(in_bytes(line, byte, formulas));
     }
-    in_name(line, byte)
+    in_name(rt, line, byte)
 }
 
-fn lines(input: &[u8], formulas: &mut [u8]) {
+fn lines(rt: &impl Print, input: &[u8], formulas: &mut [u8]) -> io::Result<()> {
     let mut line = begun();
     let mut i: usize = 0;
     while i < input.len() {
-        line = taken(line, input[i], formulas);
+        line = taken(rt, line, input[i], formulas)?;
         i += 1;
     }
+    Ok(())
 }
 
-fn main() {
+fn main(rt: HostRuntime) -> io::Result<()> {
     let mut space = [0u8; INPUT_ROOM];
     let mut formulas = [0u8; MOST_BYTES];
-    if let Input::Whole(long) = streams::read_input(&mut space) {
-        lines(front(&space, long), &mut formulas);
+    match streams::read_input(&mut rt.stdin(), &mut space) {
+        Input::Whole(long) => lines(&rt, front(&space, long), &mut formulas),
+        Input::Failed(error) => Err(error),
     }
 }

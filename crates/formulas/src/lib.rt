@@ -1,4 +1,6 @@
 // A formula that stands in the bytes: whether it holds in a letter, and its label.
+#![tactic(auto)]
+
 ghost use Rattle.std.specs.Prelude.{◌≡◌, ◌≤◌};
 ghost use Rattle.definitions.specs.Definition2.{joined};
 ghost use Rattle.rules.specs.Places.{GoodFormula};

@@ -3,7 +3,7 @@ use Prim.Native.Nat.{ℕ, suc, ◌+◌, ◌≤◌, ◌<◌}
 use native.Mathlib.Omega.{arith}
 use native.Mathlib.Decide.{dec_lt}
 use mathlib.Core.Path.{◌≡◌, refl, sym, ap, subst, ◌∙◌}
-use mathlib.Core.List.{List, [], ◌∷◌, ◌++◌}
+use mathlib.Core.List.{List, [], ◌∷◌}
 use lib.ListN.{length, get_or, drop, drop_of_length-le}
 use lib.Seq.{drop-cons}
 use borrow.Author.Tests.{ne_eqb}
@@ -22,7 +22,7 @@ use Rattle.grammar.specs.declared.signs.Sign.TheVariants as signed
 use Rattle.grammar.specs.Text.{junction_char}
 use Rattle.grammar.specs.inner.Reading.{Need, rule, junction, tail, second, bracket, star, occurrence, sign, Counts, uncounted, from, plus, starred, Tail, Second, within, both, seconded, Value, Values, Rest, Row, row, counts, from_to, rows, scan}
 use Rattle.grammar.specs.inner.Wide.{head_bytes, plain_head, bracket_head, standing_head}
-use Rattle.grammar.specs.inner.Places.{At, Part, Fails, Passes, CountedAt, are, no_counts, HeadedAt, by, unheaded, StarAt, BracketAt, OccurrenceAt, JunctionAt, joins, no_junction, Operator, SignAt, operator, repetition, no_sign}
+use Rattle.grammar.specs.inner.Places.{At, Fails, Passes, CountedAt, are, no_counts, HeadedAt, by, unheaded, StarAt, BracketAt, OccurrenceAt, JunctionAt, joins, no_junction, Operator, SignAt, operator, repetition, no_sign}
 use Rattle.grammar.proofs.Rights.{Right, rights}
 use Rattle.grammar.proofs.Picking.{Opens}
 use Rattle.grammar.proofs.Complete.{no_and, no_bracket, Free, over_none}

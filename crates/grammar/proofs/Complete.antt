@@ -2,7 +2,7 @@
 use Prim.Native.Nat.{ℕ, zero, suc, ◌+◌, ◌-◌, ◌≤◌, ◌<◌}
 use native.Mathlib.Omega.{arith}
 use native.Mathlib.Decide.{dec_lt}
-use mathlib.Core.Path.{◌≡◌, refl, sym, ap, subst, ◌∙◌}
+use mathlib.Core.Path.{◌≡◌, refl, sym, ap, ◌∙◌}
 use mathlib.Core.Bool.{Bool, true, false, cond, ◌&&◌}
 use mathlib.Core.List.{List, [], ◌∷◌, ◌++◌, append_assoc, append-nil}
 use lib.ListN.{length, length-append}
@@ -11,15 +11,14 @@ use borrow.Author.Tests.{eq-eqb, ne_eqb}
 use Rattle.definitions.specs.declared.kinds.Junction.{Junction}
 use Rattle.definitions.specs.declared.kinds.Junction.TheVariants.{And, Or}
 use Rattle.definitions.specs.declared.kinds.Pair.{Pair}
-use Rattle.definitions.specs.declared.kinds.Repeat.{Repeat}
 use Rattle.definitions.specs.declared.kinds.Pair.TheVariants.{Then, Overlap, Either, Within, Both}
 use Rattle.definitions.specs.declared.kinds.Repeat.TheVariants.{Star, Plus}
 use Rattle.definitions.specs.Definition1.{Formula, prop, yea, nay, neg, join, Rule, letter, empty, two, again, counted, occurs}
 use Rattle.definitions.specs.Encoding.{largest_count, CountsFit, SmallF, Small}
 use Rattle.writing.specs.Decimal.{decimal}
-use Rattle.grammar.specs.Text.{junction_char, pair_sign, counts_text, formula_text, text}
+use Rattle.grammar.specs.Text.{junction_char, counts_text, formula_text, text}
 use Rattle.grammar.specs.inner.Reading.{Which, low, high, all, rest, Need, rule, formula, digit, junction, tail, second, bracket, star, occurrence, number, sign, Counts, uncounted, from, Bracket, plus, starred, Tail, pair, repeated, Second, within, both, More, Value, Rest, closed, seconded, standing, rule_rows, as_second, Row, row, only, stop, others, near, digit_to, ended, number_rows, counts, from_to, as_star, rows, Outcome, good, broken, On, pick, scan, parse}
-use Rattle.grammar.specs.inner.Values.{star_text, occurrence_text, bracket_text, tail_text, more_text, text_n, SmallC, SmallB, Near}
+use Rattle.grammar.specs.inner.Values.{occurrence_text, tail_text, more_text, text_n, SmallC, SmallB, Near}
 use Rattle.grammar.proofs.Numbers.{one_digit, two_digits, one_alone}
 use Rattle.grammar.proofs.Picking.{later}
 use Rattle.grammar.proofs.Counting.{followed, by_digit, by_one, by_teen, Stops, one_stands}

@@ -7,7 +7,7 @@ use mathlib.Core.List.{List, [], ◌∷◌, ◌++◌}
 use lib.Dec.{leb}
 use borrow.Author.Tests.{le-leb, lt-leb, eq-eqb, ne_eqb}
 use Rattle.definitions.specs.Encoding.{largest_count}
-use Rattle.grammar.specs.inner.Reading.{Which, low, high, Digits, all, rest, Need, number, sign, Value, Rest, Row, row, only, stop, others, more, near, digit_to, ended, number_rows, rows, broken, feed, pick, scan}
+use Rattle.grammar.specs.inner.Reading.{Which, Digits, all, rest, Need, number, sign, Value, Rest, Row, row, only, stop, others, more, near, digit_to, ended, number_rows, rows, broken, feed, pick, scan}
 use Rattle.grammar.proofs.Picking.{Closes, Opens, at_once}
 
 -- the tests

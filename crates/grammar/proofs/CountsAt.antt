@@ -8,13 +8,12 @@ use mathlib.Core.List.{List, [], ◌∷◌, ◌++◌}
 use lib.ListN.{length, get_or, drop, drop_of_length-le}
 use lib.Seq.{drop-cons}
 use Rattle.definitions.specs.Encoding.{largest_count}
-use Rattle.writing.specs.Decimal.{decimal}
 use Rattle.grammar.specs.declared.counts.Counted.{Counted}
 use Rattle.grammar.specs.declared.counts.Counted.TheVariants as counted-told
 use Rattle.grammar.specs.declared.counts.Number.{Number}
 use Rattle.grammar.specs.declared.counts.Number.TheVariants.{Is, Broken}
-use Rattle.grammar.specs.inner.Reading.{Which, low, high, Digits, all, rest, Need, number, sign, Value, Values, Rest, stop, others, more, digit_to, counts, broken, given, scan}
-use Rattle.grammar.specs.inner.Values.{more_text, digits, texts, Near}
+use Rattle.grammar.specs.inner.Reading.{Which, low, high, Digits, all, rest, number, sign, Values, Rest, stop, others, more, digit_to, broken, scan}
+use Rattle.grammar.specs.inner.Values.{digits, texts}
 use Rattle.grammar.specs.inner.Places.{At, Part, Fails, Passes, DigitAt, a_digit, no_digit, IsNumber, NumberAt, is, no_number, HighAt, is_high, not_high, CountedAt, are, no_counts}
 use Rattle.grammar.proofs.Numbers.{one_digit, two_digits, others_of, begun_of, one_alone}
 use Rattle.grammar.proofs.Rights.{more_text_lem, more_small}

@@ -1,10 +1,10 @@
 -- Values of needs that stand in the text: a character, a word, one need after another, by a row. Assumes nothing.
-use Prim.Native.Nat.{ℕ, ◌+◌, ◌≤◌}
+use Prim.Native.Nat.{ℕ, ◌+◌}
 use native.Mathlib.Omega.{arith}
 use mathlib.Core.Path.{◌≡◌, refl, sym, ap, subst, ◌∙◌}
 use mathlib.Core.List.{List, [], ◌∷◌, ◌++◌, append-nil}
 use lib.ListN.{drop}
-use Rattle.grammar.specs.inner.Reading.{Need, sign, Value, Values, Rest, Row, rows, feed, given, broken, scan}
+use Rattle.grammar.specs.inner.Reading.{Need, sign, Value, Values, Rest, Row, rows, feed, given, scan}
 use Rattle.grammar.specs.inner.Values.{text_n, texts, SmallN, Smalls}
 use Rattle.grammar.specs.inner.Places.{At, Part, Fails, Passes, signs}
 use Rattle.grammar.proofs.Rights.{Right}

@@ -8,7 +8,7 @@ use mathlib.Core.List.{List, [], ◌∷◌, ◌++◌, append_assoc, append-nil}
 use lib.Dec.{eqb, leb}
 use borrow.Author.Tests.{leb-true}
 use Rattle.definitions.specs.Definition1.{Formula, Rule}
-use Rattle.definitions.specs.Encoding.{largest_count, CountsFit, SmallF, Small}
+use Rattle.definitions.specs.Encoding.{largest_count, SmallF, Small}
 use Rattle.writing.specs.Decimal.{decimal}
 use Rattle.grammar.specs.Text.{formula_text, text}
 use Rattle.grammar.specs.inner.Reading.{Which, low, high, Digits, all, rest, Need, rule, formula, digit, junction, tail, second, bracket, star, occurrence, number, sign, Counts, uncounted, from, Bracket, plus, starred, Tail, pair, repeated, Second, within, both, Value, Values, fore, aft, Row, row, only, bracketed, closed, seconded, standing, formula_rows, rule_rows, as_rule, as_second, stop, others, more, near, digit_to, ended, number_rows, counts, as_star, rows, missing}

@@ -12,7 +12,7 @@ use lib.ListN.{length, get_or, drop, length-append, drop_of_length-le}
 use lib.Seq.{drop-cons}
 use borrow.Author.Tests.{eqb-true, eqb-false, ne_eqb}
 use Rattle.bits.specs.Says.{Says}
-use Rattle.grammar.specs.inner.Reading.{Need, sign, Value, Rest, Row, rows, missing, broken, lack, finish, step, scan}
+use Rattle.grammar.specs.inner.Reading.{Need, sign, Value, Rest, Row, rows, missing, lack, finish, step, scan}
 use Rattle.grammar.specs.inner.Places.{At, Part, Fails}
 use Rattle.grammar.proofs.Picking.{Closes, later}
 use Rattle.grammar.proofs.Complete.{over_sign}

@@ -17,7 +17,7 @@ pub const SIDE: usize = LETTER_LIMIT + 1;
 pub type Answers = [u64; SIDE];
 
 // An operator whose answers are found part by part; `[*]` reads its own answers for the rest.
-#[derive(Drop)]
+#[derive(Clone, Copy)]
 pub enum Operator {
     Two(Pair),
     Star,

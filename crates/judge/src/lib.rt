@@ -1,4 +1,6 @@
 // The plain judge: whether a rule accepts a sequence of letters, found as Definition 2 reads. It builds no table of the rule.
+#![tactic(auto)]
+
 ghost use Rattle.std.specs.Prelude.{◌≡◌};
 ghost use Rattle.judge.specs.Refusals.{number, place};
 ghost use Rattle.judge.specs.Verdict.{told, JudgeRight};
@@ -15,7 +17,7 @@ use cuts::LETTER_LIMIT;
 use letters::Scanned;
 
 // Why nothing is judged.
-#[derive(Drop)]
+#[derive(Clone, Copy)]
 pub enum Refusal {
     // the rule's own
     OfRule(definitions::Refusal),

@@ -1,6 +1,6 @@
 -- From what the reader and the rounds promise to what the call promises. Assumes nothing.
 use Prim.Native.Nat.{ℕ}
-use mathlib.Core.Path.{◌≡◌, refl, sym, ap, subst, ◌∙◌}
+use mathlib.Core.Path.{◌≡◌, sym, ap, subst, ◌∙◌}
 use mathlib.Core.List.{List}
 use Rattle.models.specs.declared.ModelRead.{ModelRead}
 use Rattle.models.specs.declared.Refusal as model-refusal

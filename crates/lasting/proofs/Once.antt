@@ -9,7 +9,6 @@ use Rattle.bits.proofs.Laws.{ext}
 use Rattle.bits.proofs.Truths.{same_truth}
 use Rattle.models.specs.declared.Refusal.TheVariants.{TooMany, WrongKind, CutShort, LetterTooLarge, WrongFlag, NoSuchState}
 use Rattle.models.specs.declared.ModelData.{ModelData}
-use Rattle.models.specs.Answer as models
 use Rattle.models.proofs.Once as models-once
 use Rattle.lasting.specs.declared.LastingAnswer.{LastingAnswer}
 use Rattle.lasting.specs.declared.LastingAnswer.TheVariants.{Lasting, Refused}

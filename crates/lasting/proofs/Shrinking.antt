@@ -7,7 +7,6 @@ use mathlib.Core.Logic.{⊎_elim}
 use mathlib.Core.Bool.{Bool, true, false}
 use mathlib.Core.List.{List}
 use lib.Dec.{T, ltb}
-use lib.ListN.{length}
 use lib.Pow.{pow_mono, ones_lt}
 use borrow.Author.Tests.{lt-ltb, ltb-true}
 use Rattle.bits.specs.Word.{bit, num, many, all}

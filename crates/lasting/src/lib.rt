@@ -1,4 +1,6 @@
 // The states from which a model can go on for ever, and the model without the others: a dead end is a half-drawn job, and closes no run.
+#![tactic(auto)]
+
 ghost use Rattle.lasting.specs.Answer.{told, LastingRight};
 
 use crate::rounds::lasting_states;

@@ -1,6 +1,8 @@
 // Prints which states of a model last, and rulecheck's line for it: models with dead ends, and the same with a way on.
+#![tactic(auto)]
+
 use lasting::LastingAnswer;
-use libc::STDOUT_FILENO;
+use std::io;
 
 // p0[*];p1 with its length; the model stands behind it.
 const RULE: [u8; 9] = *b"\x08\x12\x17\x10\x01\x00\x10\x01\x01";
@@ -13,71 +15,75 @@ const RECORD: usize = 11;
 
 const INPUT_ROOM: usize = RULE_ROOM + RECORD * STATES;
 
-fn print(bytes: &[u8]) {
-    io::write_all(STDOUT_FILENO, bytes);
+fn print(rt: &impl Print, bytes: &[u8]) -> io::Result<()> {
+    rt.write_all(bytes)
 }
 
-fn number(n: u64) {
-    io::print_decimal(STDOUT_FILENO, n);
+fn number(rt: &impl Print, n: u64) -> io::Result<()> {
+    print!(rt; "{n}")
 }
 
-fn member(set: u64, k: usize) {
+fn member(rt: &impl Print, set: u64, k: usize) -> io::Result<()> {
     if k < STATES {
         if bits::has(set, k) {
-            print(b" ");
-            number(k as u64);
+            print(rt, b" ")?;
+            number(rt, k as u64)?;
         }
     }
+    Ok(())
 }
 
-fn members(set: u64) {
+fn members(rt: &impl Print, set: u64) -> io::Result<()> {
     for k in 0..STATES {
-        member(set, k);
+        member(rt, set, k)?;
     }
+    Ok(())
 }
 
-fn lasts(states: usize, set: u64) {
-    number(states as u64);
-    print(b" states, these last:");
-    members(set);
-    print(b"\n");
+fn lasts(rt: &impl Print, states: usize, set: u64) -> io::Result<()> {
+    number(rt, states as u64)?;
+    print(rt, b" states, these last:")?;
+    members(rt, set)?;
+    print(rt, b"\n")
 }
 
 // The states that last, or the refusal.
-fn lasting(model: &[u8]) {
+fn lasting(rt: &impl Print, model: &[u8]) -> io::Result<()> {
     match lasting::lasting(model) {
-        LastingAnswer::Lasting { states, set } => lasts(states, set),
+        LastingAnswer::Lasting { states, set } => lasts(rt, states, set)?,
         LastingAnswer::Refused(x) => {
-            print(b"refused ");
-            number(x.number());
-            print(b" at ");
-            number(x.place() as u64);
-            print(b"\n");
+            print(rt, b"refused ")?;
+            number(rt, x.number())?;
+            print(rt, b" at ")?;
+            number(rt, x.place() as u64)?;
+            print(rt, b"\n")?;
         }
     }
+    Ok(())
 }
 
-fn line(input: &[u8]) {
+fn line(rt: &impl Print, input: &[u8]) -> io::Result<()> {
     let mut out = [0u8; lines::LINE_ROOM];
     let long = lines::line(input, &mut out);
     if long <= out.len() {
-        print(&out[..long]);
+        print(rt, &out[..long])?;
     }
-    print(b"\n");
+    print(rt, b"\n")
 }
 
 // Both, for the first n states of the model behind the rule.
-fn show(name: &[u8], input: &[u8], n: usize) {
-    print(name);
-    print(b"\n  ");
+fn show(rt: &impl Print, name: &[u8], input: &[u8], n: usize) -> io::Result<()> {
+    print(rt, name)?;
+    print(rt, b"\n  ")?;
     if n <= STATES {
         let end = RULE_ROOM + RECORD * n;
         if end <= input.len() {
-            lasting(&input[RULE_ROOM..end]);
-            print(b"  ");
-            line(&input[..end]);
+            lasting(rt, &input[RULE_ROOM..end])?;
+            print(rt, b"  ")?;
+            line(rt, &input[..end])?;
         }
     }
+    Ok(())
 }
 
 fn put(input: &mut [u8], at: usize, b: u8) {
@@ -115,22 +121,23 @@ fn put_chain(input: &mut [u8]) {
 }
 
 // Its last state has p1 and no way on; then one to itself.
-fn chain(input: &mut [u8]) {
+fn chain(rt: &impl Print, input: &mut [u8]) -> io::Result<()> {
     put_chain(input);
     put_state(input, 0, 1, 1);
     put_state(input, STATES - 1, 2, 0);
-    show(b"a chain of 64 states into a dead end", input, STATES);
+    show(rt, b"a chain of 64 states into a dead end", input, STATES)?;
     put_way(input, STATES - 1, STATES - 1);
-    show(b"the same with a loop at its end", input, STATES);
+    show(rt, b"the same with a loop at its end", input, STATES)?;
     show(
+        rt,
         b"without its last state, to which the one before it goes",
         input,
         STATES - 1,
-    );
+    )
 }
 
 // State 0 goes to 1, which is a dead end, and to 2, which goes to 3 and so to 2 again.
-fn fork(input: &mut [u8]) {
+fn fork(rt: &impl Print, input: &mut [u8]) -> io::Result<()> {
     put_state(input, 0, 1, 1);
     put_state(input, 1, 2, 1);
     put_state(input, 2, 1, 0);
@@ -139,17 +146,18 @@ fn fork(input: &mut [u8]) {
     put_way(input, 2, 3);
     put_way(input, 3, 2);
     show(
+        rt,
         b"a dead end that is initial and has p1, and a longer way to p1",
         input,
         4,
-    );
+    )
 }
 
-fn alone(input: &mut [u8]) {
+fn alone(rt: &impl Print, input: &mut [u8]) -> io::Result<()> {
     put_state(input, 0, 2, 1);
     put_way(input, 0, 0);
-    show(b"a state that goes to itself alone", input, 1);
-    show(b"no states", input, 0);
+    show(rt, b"a state that goes to itself alone", input, 1)?;
+    show(rt, b"no states", input, 0)
 }
 
 fn with_rule(input: &mut [u8]) {
@@ -158,14 +166,14 @@ fn with_rule(input: &mut [u8]) {
     }
 }
 
-fn main() {
+fn main(rt: HostRuntime) -> io::Result<()> {
     let mut first = [0u8; INPUT_ROOM];
     with_rule(&mut first);
-    chain(&mut first);
+    chain(&rt, &mut first)?;
     let mut second = [0u8; INPUT_ROOM];
     with_rule(&mut second);
-    fork(&mut second);
+    fork(&rt, &mut second)?;
     let mut third = [0u8; INPUT_ROOM];
     with_rule(&mut third);
-    alone(&mut third);
+    alone(&rt, &mut third)
 }

@@ -3,7 +3,7 @@ use Prim.Native.Nat.{ℕ, ◌+◌, ◌*◌, ◌^◌, ◌≤◌, ◌<◌}
 use native.Mathlib.Nat.{one-mul}
 use native.Mathlib.Omega.{arith}
 use native.Mathlib.Decide.{ℕ_discrete}
-use mathlib.Core.Path.{◌≡◌, refl, sym, ap, subst, ◌∙◌}
+use mathlib.Core.Path.{◌≡◌, sym, ap, subst, ◌∙◌}
 use mathlib.Core.Logic.{◌≢◌}
 use mathlib.Core.Bool.{Bool}
 use mathlib.Core.List.{List}
@@ -11,11 +11,10 @@ use lib.ListN.{length, get_or}
 use Rattle.bits.specs.Word.{bit, word}
 use Rattle.bits.proofs.Laws.{bit_word, word_lt, word_unique}
 use Rattle.automata.specs.Table.{table_states, table_entries, cell}
-use Rattle.tables.specs.Beyond.{Beyond}
 use Rattle.tables.proofs.promise.Beyonds.{beyond_none}
 use Rattle.steps.specs.Moves.{row_of}
 use Rattle.letter_rows.specs.Layouts.{row_at, label_of}
-use Rattle.letter_rows.specs.Answer.{ConvertRight, whole, converted, RowsRight, TableRight}
+use Rattle.letter_rows.specs.Answer.{whole, converted, RowsRight, TableRight}
 use Rattle.squares.specs.Squares.{TurnedOver}
 use Rattle.letter_rows.specs.inner.Blocks.{Lies, ReadOut, WrittenTo, Steps, by_state, by_letter, turned_word, Carried, CarriedTo}
 

@@ -1,15 +1,13 @@
 -- What the conversions write is the other layout, and each undoes the other. Assumes nothing.
-use Prim.Native.Nat.{ℕ, ◌+◌, ◌*◌, ◌<◌, ◌≤◌}
+use Prim.Native.Nat.{ℕ, ◌<◌}
 use native.Mathlib.Omega.{arith}
 use mathlib.Core.Path.{◌≡◌, sym, ap, ◌∙◌}
 use mathlib.Core.List.{List}
-use lib.ListN.{length, get_or}
-use lib.Seq.{ext_get_or}
+use lib.ListN.{get_or}
 use Rattle.bits.specs.Word.{bit}
-use Rattle.definitions.specs.Definition2.{letter_count}
-use Rattle.automata.specs.Table.{table_states, table_entries}
+use Rattle.automata.specs.Table.{table_entries}
 use Rattle.automata.specs.IsTable.{Words}
-use Rattle.letter_rows.specs.Layouts.{row_at, RowsOf}
+use Rattle.letter_rows.specs.Layouts.{RowsOf}
 use Rattle.letter_rows.specs.Answer.{converted, RowsRight, TableRight, whole}
 use Rattle.letter_rows.proofs.Laying.{label_bit, row_bit, label_stored, row_stored}
 use Rattle.letter_rows.proofs.Once.{by_place}

@@ -4,11 +4,11 @@ use native.Mathlib.Nat.{not-suc-le-zero, le_of_suc-le-suc}
 use native.Mathlib.Omega.{arith}
 use mathlib.Core.Path.{◌≡◌, refl, sym, ap, ap₂, subst, ◌∙◌}
 use mathlib.Core.Bool.{Bool, ◌&&◌}
-use mathlib.Core.List.{List, [], ◌∷◌}
+use mathlib.Core.List.{List}
 use lib.Dec.{T}
 use lib.ListN.{length, get_or}
 use lib.Seq.{ext_get_or}
-use Rattle.bits.specs.Word.{bit, word, any}
+use Rattle.bits.specs.Word.{bit, any}
 use Rattle.bits.specs.Sets.{In, Members, Over}
 use Rattle.bits.proofs.Laws.{bit_word, word_unique, any_ext}
 use Rattle.bits.proofs.Resting.{in_word}

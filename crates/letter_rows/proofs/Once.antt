@@ -7,7 +7,6 @@ use mathlib.Core.List.{List}
 use lib.ListN.{length, get_or}
 use Rattle.rules.proofs.Once.{told_once}
 use Rattle.automata.specs.Table.{table_entries}
-use Rattle.tables.specs.Beyond.{Beyond}
 use Rattle.tables.proofs.promise.Beyonds.{beyond_once}
 use Rattle.letter_rows.specs.declared.Refusal.TheVariants.{ShortSlice}
 use Rattle.letter_rows.specs.declared.ConvertAnswer.{ConvertAnswer}

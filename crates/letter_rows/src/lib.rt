@@ -1,4 +1,6 @@
 // A table's two layouts, each made of the other, and a step of a set of states over rows by letter.
+#![tactic(auto)]
+
 ghost use Rattle.std.specs.Prelude.{◌≡◌, ◌<◌, ◌≤◌, length};
 ghost use Rattle.bits.specs.Says.{Says};
 ghost use Rattle.definitions.specs.Definition2.{letter_count};
@@ -15,7 +17,7 @@ use definitions::numbers::SHORT_SLICE;
 mod states; // the words of one state, and of all
 
 // Why nothing is converted.
-#[derive(Drop)]
+#[derive(Clone, Copy)]
 pub enum Refusal {
     // one of the slices is too short for a table
     ShortSlice,

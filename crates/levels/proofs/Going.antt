@@ -12,7 +12,7 @@ use lib.ListN.{get_or}
 use Rattle.bits.specs.Sets.{Below}
 use Rattle.automata.specs.Table.{Table, table_states}
 use Rattle.models.specs.Model.{Model, model_states}
-use Rattle.levels.specs.Right.{Count, none, counted, passed}
+use Rattle.levels.specs.Right.{Count, none, passed}
 use Rattle.levels.specs.Lent.{pair_count}
 use Rattle.levels.specs.inner.Passes.{Step, Along, FromAll, Nz, Level, view, FinalOn, Marked, Ended, pair_at}
 use Rattle.levels.proofs.Level.{ends}

@@ -29,7 +29,7 @@ pub record Split (P : ℕ → Type 0) (k b c : ℕ) : Type 0 where
 
 pub split : {P : ℕ → Type 0} (k b n c : ℕ) → n ≡ k + b → Count P n c → Split P k b c
 split {P} k zero n c e a = record { fore = c; aft = 0; front = subst (λ (x : ℕ). Count P x c) (omega arith) a; back = none; sum = omega arith }
-split k (suc b) zero zero e none = absurd (omega arith)
+split k (suc b) zero c e a = absurd (omega arith)
 split {P} k (suc b) (suc n) (suc c) e (counted p a) =
     let d : Split P k b c = split k b n c (omega arith) a in
     record { fore = d.fore; aft = suc d.aft; front = d.front; back = counted {n = b} (let h : n ≡ k + b = omega arith in subst P h p) d.back; sum = omega (arith, d.sum) }

@@ -19,7 +19,7 @@ module _ (M : Model) (A : Table) where
   extend {k} {s} {q} {m} [] w a g n e =
       let h : k ≡ n = omega arith in
       subst (λ (x : ℕ). Way M A x s m) h (subst (λ (x : ℕ). Way M A k s x) g w)
-  extend (t ∷ r) w a g n e = extend r (onto w a.0 a.1 g.1) a.2 g.2 n (omega arith)
+  extend {k = k} {s = s} {q = q} {m = m} (t ∷ r) w a g n e = extend {k = suc k} r (onto w a.0 a.1 g.1) a.2 g.2 n (omega arith)
 
   pub way_of_run : (r : List ℕ) → Run M r → (q : ℕ) → Goes A 0 (spelled M r) q → Way M A (length r) (last r) q
   way_of_run [] a q g = absurd a.0

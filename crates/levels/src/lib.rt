@@ -1,4 +1,5 @@
 // The pairs that a search reaches, level by level.
+#![tactic(auto)]
 
 pub mod shape; // what the passes hand to each other
 pub mod rows; // the table's rows for the letters that the model has

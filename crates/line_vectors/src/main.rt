@@ -1,6 +1,8 @@
 // Prints the line of each of some inputs: finds, none, refusals of the rule and of the model, and rules that name every
 // proposition and none.
-use libc::STDOUT_FILENO;
+#![tactic(auto)]
+
+use std::io;
 
 // The paper's example, whose last state is a dead end.
 const EXAMPLE: [u8; 46] =
@@ -41,26 +43,26 @@ const NO_PROPOSITION: [u8; 14] = *b"\x02\x10\x02\x20\x00\x01\x01\x00\x00\x00\x00
 const EVERY_PROPOSITION: [u8; 34] =
     *b"\x16\x10\x06\x01\x05\x06\x01\x04\x06\x01\x03\x06\x01\x02\x06\x01\x01\x05\x01\x00\x04\x01\x00\x20\x20\x01\x01\x00\x00\x00\x00\x00\x00\x00";
 
-fn show(input: &[u8], out: &mut [u8]) {
+fn show(rt: &impl Print, input: &[u8], out: &mut [u8]) -> io::Result<()> {
     let long = lines::line(input, out);
     if long <= out.len() {
-        io::write_all(STDOUT_FILENO, &out[..long]);
+        rt.write_all(&out[..long])?;
     }
-    io::write_all(STDOUT_FILENO, b"\n");
+    rt.write_all(b"\n")
 }
 
-fn main() {
+fn main(rt: HostRuntime) -> io::Result<()> {
     let mut out = [0u8; lines::LINE_ROOM];
-    show(&EXAMPLE, &mut out);
-    show(&GOES_ON, &mut out);
-    show(&WITHOUT_WAY, &mut out);
-    show(&CHAIN, &mut out);
-    show(&HEAVY, &mut out);
-    show(&CUT_SHORT, &mut out);
-    show(&NO_BYTES_OF_A_RULE, &mut out);
-    show(&LETTER_64, &mut out);
-    show(&NO_SUCH_SUCCESSOR, &mut out);
-    show(&[], &mut out);
-    show(&NO_PROPOSITION, &mut out);
-    show(&EVERY_PROPOSITION, &mut out);
+    show(&rt, &EXAMPLE, &mut out)?;
+    show(&rt, &GOES_ON, &mut out)?;
+    show(&rt, &WITHOUT_WAY, &mut out)?;
+    show(&rt, &CHAIN, &mut out)?;
+    show(&rt, &HEAVY, &mut out)?;
+    show(&rt, &CUT_SHORT, &mut out)?;
+    show(&rt, &NO_BYTES_OF_A_RULE, &mut out)?;
+    show(&rt, &LETTER_64, &mut out)?;
+    show(&rt, &NO_SUCH_SUCCESSOR, &mut out)?;
+    show(&rt, &[], &mut out)?;
+    show(&rt, &NO_PROPOSITION, &mut out)?;
+    show(&rt, &EVERY_PROPOSITION, &mut out)
 }

@@ -1,9 +1,9 @@
 -- The rule and the model of an input, by the places where they stand. Assumes nothing.
-use Prim.Native.Nat.{ℕ, suc, ◌+◌, ◌-◌, ◌≤◌, ◌<◌}
+use Prim.Native.Nat.{ℕ, suc, ◌+◌, ◌≤◌, ◌<◌}
 use native.Mathlib.Omega.{arith}
 use mathlib.Core.Path.{◌≡◌, refl, sym, ap₂, subst, ◌∙◌}
 use mathlib.Core.List.{List, [], ◌∷◌}
-use lib.ListN.{length, get_or, take, drop, length-drop, drop_of_length-le}
+use lib.ListN.{length, get_or, take, drop, drop_of_length-le}
 use lib.Seq.{take_all, drop-length, get_or-drop}
 use Rattle.lines.specs.Input.{rule_in_of, model_in_of}
 

@@ -1,4 +1,6 @@
 // The line that says what the search for one input comes to: `found L pairs C: s0 s1 ..`, `none pairs C` or `refused N at P`.
+#![tactic(auto)]
+
 ghost use Rattle.std.specs.Prelude.{◌≡◌, ◌≤◌, length};
 ghost use Rattle.search.specs.Answer.{slices};
 ghost use Rattle.lines.specs.Input.{rule_in_of, model_in_of};

@@ -1,4 +1,6 @@
 // Reads a model of jobs in the house form: its states, or the first refusal with its place.
+#![tactic(auto)]
+
 ghost use Rattle.std.specs.Prelude.{◌≡◌};
 ghost use Rattle.models.specs.Stored.{Held};
 ghost use Rattle.models.specs.Answer.{number, place, refused_as, told, answer};
@@ -21,7 +23,7 @@ pub struct ModelData {
 }
 
 // Why a model is refused, and at which place of its bytes.
-#[derive(Drop)]
+#[derive(Clone, Copy)]
 pub enum Refusal {
     // a byte follows 64 good records
     TooMany,

@@ -18,11 +18,15 @@ use Rattle.levels.specs.Lent.{pair_count, Cleared}
 use Rattle.passes.specs.Told.{answer_of, RunKept, SearchedTable}
 use Rattle.levels.specs.Right.{RunKind, Before, here, there, Count, none, counted, passed, Reached, Shown, Answer, found, nothing, Right}
 
+-- the order turned round fails, with the runs that it speaks of apart
+apart : {r u v w : List ℕ} → Before r u → Before v w → v ≡ u → w ≡ r → ⊥
+apart (here {s = s} {t = t} l) (here {s = s'} {t = t'} m) e d = let a : s' ≡ t = cc in let b : t' ≡ s = cc in omega arith
+apart (here {s = s} {t = t} l) (there {s = s'} m) e d = let a : s' ≡ t = cc in let b : s' ≡ s = cc in omega arith
+apart (there {s = s} l) (here {s = s'} {t = t'} m) e d = let a : s' ≡ s = cc in let b : t' ≡ s = cc in omega arith
+apart (there {r = r} {u = u} l) (there {r = r'} {u = u'} m) e d = let a : r' ≡ u = cc in let b : u' ≡ r = cc in apart l m a b
+
 pub before_not_both : {r u : List ℕ} → Before r u → Before u r → ⊥
-before_not_both (here l) (here m) = omega arith
-before_not_both (here {s = s} l) (there b) = omega arith
-before_not_both (there b) (here l) = omega arith
-before_not_both (there b) (there d) = before_not_both b d
+before_not_both b d = apart b d refl refl
 
 pub count_same : {P Q : ℕ → Type 0} → ((i : ℕ) → P i → Q i) → ((i : ℕ) → Q i → P i) → {n c d : ℕ} → Count P n c → Count Q n d → c ≡ d
 count_same f g none none = refl

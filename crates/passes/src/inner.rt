@@ -16,7 +16,7 @@ use levels::rows::model_rows;
 use levels::shape::{PAIRS, Sizes, USEFUL_SETS};
 
 // What a search answers.
-#[derive(Drop)]
+#[derive(Clone, Copy)]
 pub enum Searched {
     // the output begins with a match of so many states; so many pairs are within its length
     Found { long: usize, pairs: usize },

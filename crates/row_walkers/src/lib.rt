@@ -1,4 +1,6 @@
 // Follows letters through rows by letter: each call answers what the call of `walkers` answers over the table whose rows they are.
+#![tactic(auto)]
+
 ghost use Rattle.std.specs.Prelude.{◌≡◌};
 ghost use Rattle.walkers.specs.Steps.{told, given, step_of};
 ghost use Rattle.letter_rows.specs.Layouts.{table_by};

@@ -1,15 +1,13 @@
 -- What the walks over a rule's bytes promise of whatever stands at a place. Assumes nothing: these are definitions.
-use Rattle.std.specs.Prelude.{ℕ, ◌+◌, ◌-◌, ◌^◌, ◌<◌, ◌≤◌, min, ◌≡◌, Bool, true, false, List, ◌∷◌, length, get_or, drop}
+use Rattle.std.specs.Prelude.{ℕ, ◌+◌, ◌<◌, ◌≤◌, min, ◌≡◌, List, ◌∷◌, length, get_or, drop}
 use Rattle.bits.specs.Word.{word}
 use Rattle.definitions.specs.declared.Refusal.{Refusal}
 use Rattle.rules.specs.declared.ends.Read.{Read}
 use Rattle.rules.specs.declared.ends.Read.TheVariants.{Ends, Refused}
-use Rattle.definitions.specs.declared.counts.Counts.{Counts}
 use Rattle.rules.specs.declared.names.Names.{Names}
 use Rattle.rules.specs.declared.weights.Weighed.{Weighed}
-use Rattle.definitions.specs.declared.kinds.Junction.{Junction}
-use Rattle.definitions.specs.Definition1.{Formula, prop, Rule}
-use Rattle.definitions.specs.Definition2.{letter_count, last_proposition, joined, holds}
+use Rattle.definitions.specs.Definition1.{Formula, Rule}
+use Rattle.definitions.specs.Definition2.{last_proposition}
 use Rattle.rules.specs.Weight.{weight_of, counted_to}
 use Rattle.rules.specs.Named.{proposition_count, formula_names, uses_of}
 use Rattle.definitions.specs.Refusals.{number, place}

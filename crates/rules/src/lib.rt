@@ -1,4 +1,6 @@
 // Reads a rule in the house form: what is known of an accepted rule, or the first refusal with its place.
+#![tactic(auto)]
+
 ghost use Rattle.std.specs.Prelude.{◌≡◌};
 ghost use Rattle.rules.specs.Answer.{told, answer};
 
@@ -15,7 +17,7 @@ const LONGEST_RULE: usize = 255;
 const WEIGHT_LIMIT: usize = 64;
 
 // What is known of an accepted rule: its weight, and the propositions that it names, bit i for proposition i.
-#[derive(Drop)]
+#[derive(Clone, Copy)]
 pub struct Known {
     pub weight: usize,
     pub uses: u64,

@@ -4,6 +4,7 @@ use crate::model_bytes::{put_full, put_ring};
 use crate::show;
 use passes::inner::Searched;
 use search::SearchAnswer;
+use std::io;
 
 // A run of more states is not printed state by state.
 const PRINTED: usize = 16;
@@ -26,46 +27,49 @@ const FORK: [u8; 33] =
 const CROSSED: [u8; 33] =
     *b"\x20\x01\x01\x06\x00\x00\x00\x00\x00\x00\x00\x20\x04\x00\x02\x00\x00\x00\x00\x00\x00\x00\x20\x02\x00\x04\x00\x00\x00\x00\x00\x00\x00";
 
-fn show_run(run: &[u8], n: usize) {
+fn show_run(rt: &impl Print, run: &[u8], n: usize) -> io::Result<()> {
     for i in 0..n {
         if i < run.len() {
-            show::text(b" ");
-            show::byte(run[i]);
+            show::text(rt, b" ")?;
+            show::byte(rt, run[i])?;
         }
     }
+    Ok(())
 }
 
-fn found(run: &[u8], long: usize, pairs: usize) {
-    show::text(b"found ");
-    show::number(long as u64);
-    show::text(b" pairs ");
-    show::number(pairs as u64);
+fn found(rt: &impl Print, run: &[u8], long: usize, pairs: usize) -> io::Result<()> {
+    show::text(rt, b"found ")?;
+    show::number(rt, long as u64)?;
+    show::text(rt, b" pairs ")?;
+    show::number(rt, pairs as u64)?;
     if long <= PRINTED {
-        show::text(b":");
-        show_run(run, long);
+        show::text(rt, b":")?;
+        show_run(rt, run, long)?;
     }
-    show::text(b"\n");
+    show::text(rt, b"\n")
 }
 
-fn searched(answer: Searched, run: &[u8]) {
+fn searched(rt: &impl Print, answer: Searched, run: &[u8]) -> io::Result<()> {
     match answer {
-        Searched::Found { long, pairs } => found(run, long, pairs),
+        Searched::Found { long, pairs } => found(rt, run, long, pairs)?,
         Searched::Nothing { pairs } => {
-            show::text(b"none pairs ");
-            show::number(pairs as u64);
-            show::text(b"\n");
+            show::text(rt, b"none pairs ")?;
+            show::number(rt, pairs as u64)?;
+            show::text(rt, b"\n")?;
         }
     }
+    Ok(())
 }
 
-fn answered(answer: SearchAnswer, run: &[u8]) {
+fn answered(rt: &impl Print, answer: SearchAnswer, run: &[u8]) -> io::Result<()> {
     match answer {
         SearchAnswer::Answered {
             searched: x,
             rule: _,
-        } => searched(x, run),
-        SearchAnswer::Refused(x) => show::refused(x.number(), x.place()),
+        } => searched(rt, x, run)?,
+        SearchAnswer::Refused(x) => show::refused(rt, x.number(), x.place())?,
     }
+    Ok(())
 }
 
 // Whether the entries from a to b all are v.
@@ -161,99 +165,109 @@ fn left_as_promised(
 }
 
 // Each search is lent slices of its own that are longer than it asks for, filled with 7.
-fn search(name: &[u8], rule: &[u8], model: &[u8]) {
+fn search(rt: &impl Print, name: &[u8], rule: &[u8], model: &[u8]) -> io::Result<()> {
     let mut table = [7u64; 4100];
     let mut marks = [7u16; 4100];
     let mut useful = [7u16; 4100];
     let mut run = [7u8; 4100];
     let answer = search::search(rule, model, &mut table, &mut marks, &mut useful, &mut run);
-    show::text(name);
-    show::text(b": ");
-    answered(answer, &run);
-    show::text(b"  lent slices as promised: ");
-    show::yes_or_no(left_as_promised(answer, &table, &marks, &useful, &run));
+    show::text(rt, name)?;
+    show::text(rt, b": ")?;
+    answered(rt, answer, &run)?;
+    show::text(rt, b"  lent slices as promised: ")?;
+    show::yes_or_no(rt, left_as_promised(answer, &table, &marks, &useful, &run))
 }
 
-fn small() {
+fn small(rt: &impl Print) -> io::Result<()> {
     search(
+        rt,
         b"three states",
         b"\x12\x10\x01\x00\x12\x17\x10\x01\x01\x10\x01\x02",
         &THREE,
-    );
+    )?;
     search(
+        rt,
         b"three states, without the way to the last",
         b"\x12\x10\x01\x00\x12\x17\x10\x01\x01\x10\x01\x02",
         &WITHOUT_WAY,
-    );
+    )?;
     search(
+        rt,
         b"no states",
         b"\x12\x10\x01\x00\x12\x17\x10\x01\x01\x10\x01\x02",
         b"",
-    );
+    )?;
     search(
+        rt,
         b"no initial state",
         b"\x12\x10\x01\x00\x12\x17\x10\x01\x01\x10\x01\x02",
         &WITHOUT_INITIAL,
-    );
-    search(b"a rule of the empty sequence alone", b"\x11", &THREE);
+    )?;
+    search(rt, b"a rule of the empty sequence alone", b"\x11", &THREE)?;
     search(
+        rt,
         b"a dead end, which closes no run",
         b"\x10\x01\x00",
         b"\x20\x01\x01\x00\x00\x00\x00\x00\x00\x00\x00",
-    );
+    )?;
     search(
+        rt,
         b"two runs that are equally short",
         b"\x12\x10\x01\x00\x10\x01\x01",
         &FORK,
-    );
+    )?;
     search(
+        rt,
         b"the set of table states is needed",
         b"\x14\x12\x10\x01\x00\x10\x01\x01\x12\x10\x01\x00\x10\x01\x02",
         &CROSSED,
-    );
+    )
 }
 
 // {31 times true}[*];p0 meets the ring's only p0 for the first time after 63 rounds of 31 states.
-fn ring(rule: &mut [u8], model: &mut [u8]) {
+fn ring(rt: &impl Print, rule: &mut [u8], model: &mut [u8]) -> io::Result<()> {
     let n = put(rule, 0, b"\x12\x17");
     let n = put_many(rule, n, b"\x12\x10\x02", 30);
     let n = put(rule, n, b"\x10\x02\x10\x01\x00");
     let m = put_ring(model);
-    search(b"a ring of 64 states", front(rule, n), front(model, m));
+    search(rt, b"a ring of 64 states", front(rule, n), front(model, m))
 }
 
-fn full(model: &mut [u8]) {
+fn full(rt: &impl Print, model: &mut [u8]) -> io::Result<()> {
     let m = put_full(model);
     search(
+        rt,
         b"all of 64 states",
         b"\x12\x10\x01\x00\x12\x17\x10\x01\x01\x10\x01\x02",
         front(model, m),
-    );
+    )?;
     search(
+        rt,
         b"all of 64 states, by a rule that nothing matches",
         b"\x12\x10\x02\x12\x16\x10\x01\x00\x10\x04\x01\x00\x10\x02",
         front(model, m),
-    );
+    )
 }
 
 // The rule's refusals come before the model's, and both before 21.
-fn refusals() {
-    search(b"no rule and no model", b"", b"\x00");
-    search(b"no model", b"\x11", b"\x00");
+fn refusals(rt: &impl Print) -> io::Result<()> {
+    search(rt, b"no rule and no model", b"", b"\x00")?;
+    search(rt, b"no model", b"\x11", b"\x00")?;
     let mut few = [0u64; 4095];
     let mut marks = [0u16; 4096];
     let mut useful = [0u16; 4096];
     let mut run = [0u8; 4096];
-    show::text(b"a table slice that is one entry short: ");
+    show::text(rt, b"a table slice that is one entry short: ")?;
     answered(
+        rt,
         search::search(b"\x11", b"", &mut few, &mut marks, &mut useful, &mut run),
         &run,
-    );
+    )
 }
 
-pub fn run(rule: &mut [u8], model: &mut [u8]) {
-    small();
-    ring(rule, model);
-    full(model);
-    refusals();
+pub fn run(rt: &impl Print, rule: &mut [u8], model: &mut [u8]) -> io::Result<()> {
+    small(rt)?;
+    ring(rt, rule, model)?;
+    full(rt, model)?;
+    refusals(rt)
 }

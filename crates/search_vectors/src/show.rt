@@ -1,30 +1,31 @@
 // What came out, as text.
-use libc::STDOUT_FILENO;
+use std::io;
 
-pub fn text(t: &[u8]) {
-    io::write_all(STDOUT_FILENO, t);
+pub fn text(rt: &impl Print, t: &[u8]) -> io::Result<()> {
+    rt.write_all(t)
 }
 
-pub fn number(n: u64) {
-    io::print_decimal(STDOUT_FILENO, n);
+pub fn number(rt: &impl Print, n: u64) -> io::Result<()> {
+    print!(rt; "{n}")
 }
 
-pub fn byte(b: u8) {
-    number(b as u64);
+pub fn byte(rt: &impl Print, b: u8) -> io::Result<()> {
+    number(rt, b as u64)
 }
 
-pub fn yes_or_no(yes: bool) {
+pub fn yes_or_no(rt: &impl Print, yes: bool) -> io::Result<()> {
     if yes {
-        text(b"yes\n");
+        text(rt, b"yes\n")?;
     } else {
-        text(b"no\n");
+        text(rt, b"no\n")?;
     }
+    Ok(())
 }
 
-pub fn refused(number_of: u64, place: usize) {
-    text(b"refused ");
-    number(number_of);
-    text(b" at ");
-    number(place as u64);
-    text(b"\n");
+pub fn refused(rt: &impl Print, number_of: u64, place: usize) -> io::Result<()> {
+    text(rt, b"refused ")?;
+    number(rt, number_of)?;
+    text(rt, b" at ")?;
+    number(rt, place as u64)?;
+    text(rt, b"\n")
 }

@@ -3,13 +3,13 @@ use Prim.Native.Nat.{ℕ, ◌+◌, ◌-◌, ◌*◌, ◌/◌, ◌%◌, ◌^◌, 
 use native.Mathlib.Nat.{lt_of_le_of_lt, add_comm, add-zero, mod-lt}
 use native.Mathlib.Omega.{arith}
 use mathlib.Core.Path.{◌≡◌, refl, sym, ap, ap₂, ◌∙◌}
-use mathlib.Core.Logic.{◌⊎◌, inl, inr, ⊎_elim}
+use mathlib.Core.Logic.{⊎_elim}
 use mathlib.Core.Bool.{Bool, true, false, not, ◌&&◌, ◌||◌, and-true, and-false, or-false}
 use mathlib.Core.List.{List}
-use lib.Bits.{bit_and, bit_or, and_le_l, and_le_r, or_lt}
+use lib.Bits.{bit_and, bit_or, and_le_r, or_lt}
 use lib.ListN.{get_or}
 use lib.Pow.{pow_pos}
-use Rattle.bits.specs.Word.{bit, word}
+use Rattle.bits.specs.Word.{bit}
 use Rattle.bits.proofs.Laws.{lt_or_ge, bit_zero, bit_of_or, bit_of_and, bit_not, bit_shr, bit_shl, bit_mod, bit_cat_low, word_unique}
 use Rattle.squares.specs.inner.Rounds.{placed, turn, mixed, Half}
 use Rattle.squares.proofs.Digits.{down_inside, down_digit}

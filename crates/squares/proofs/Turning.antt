@@ -1,18 +1,17 @@
 -- Six rounds turn a square over: each takes one digit more of a word's place from the bit's place. Assumes nothing.
-use Prim.Native.Nat.{ℕ, zero, suc, ◌^◌, ◌≤◌, ◌<◌}
-use native.Mathlib.Nat.{lt_of_lt_of_le}
+use Prim.Native.Nat.{ℕ, zero, suc, ◌≤◌, ◌<◌}
 use native.Mathlib.Omega.{arith}
 use native.Mathlib.Decide.{ℕ_discrete, dec_lt}
 use mathlib.Core.Path.{◌≡◌, refl, sym, ap, ap₂, ◌∙◌}
-use mathlib.Core.Bool.{Bool, true, false, cond}
+use mathlib.Core.Bool.{Bool, cond}
 use mathlib.Core.List.{List}
 use lib.Dec.{eqb, ltb}
 use lib.ListN.{get_or}
 use lib.Pow.{pow_pos}
 use borrow.Author.Tests.{lt-ltb, le-ltb, eq-eqb, ne_eqb}
-use Rattle.bits.specs.Word.{bit, word}
+use Rattle.bits.specs.Word.{bit}
 use Rattle.bits.proofs.Laws.{ext, bit_zero, bit_word, word_lt, word_unique}
-use Rattle.squares.specs.inner.Rounds.{placed, turn, mixed, Round, Empty}
+use Rattle.squares.specs.inner.Rounds.{turn, Round, Empty}
 use Rattle.squares.specs.Squares.{TurnedOver}
 use Rattle.squares.proofs.Digits.{bit_placed, placed_lt}
 

@@ -1,4 +1,6 @@
 // A square of 64 words by 64 bits, turned over in six rounds: round r exchanges the quarters of each square of 2·2^r by 2·2^r bits.
+#![tactic(auto)]
+
 ghost use Rattle.std.specs.Prelude.{◌≡◌, ◌<◌, length};
 ghost use Rattle.bits.specs.Says.{Says};
 ghost use Rattle.squares.specs.inner.Rounds.{Half, Round, Empty, mixed};

@@ -1,4 +1,6 @@
 // One step of a set of table states under a letter, over whatever table is lent.
+#![tactic(auto)]
+
 ghost use Rattle.std.specs.Prelude.{◌≡◌, ◌<◌, ◌≤◌, length};
 ghost use Rattle.definitions.specs.Definition2.{letter_count};
 ghost use Rattle.automata.specs.Table.{table_states, table_entries};

@@ -11,7 +11,7 @@ use lib.ListN.{length}
 use borrow.Author.Tests.{le-ltb, ltb-false, ltb-true}
 use Rattle.definitions.specs.Definition1.{Formula}
 use Rattle.systems.specs.Reading.{Outcome, good, fault, parse}
-use Rattle.systems.specs.Spelling.{spell_f, spell, Spells}
+use Rattle.systems.specs.Spelling.{spell_f, Spells}
 use Rattle.systems.specs.Answer.{longest_system, Result, accepted, refused, placed, answer, AcceptedAs}
 use Rattle.systems.proofs.Spelled.{spelt_is_read, read_is_spelt}
 

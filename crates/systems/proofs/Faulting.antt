@@ -10,17 +10,16 @@ use lib.Dec.{eqb, leb, ltb}
 use lib.ListN.{length, get_or, take, drop, length-drop, take-append-drop}
 use lib.Seq.{take_all, take-add, take-take, get_or-drop, length-take-le, split_at}
 use borrow.Author.Tests.{lt-ltb, le-ltb, lt-leb, leb-false, ltb-true, ltb-false, eq-eqb, ne_eqb, eqb-false}
-use Rattle.definitions.specs.declared.kinds.FormulaKind.{FormulaKind}
 use Rattle.definitions.specs.declared.kinds.FormulaKind.TheVariants.{Proposition, Truth, Falsity, Not, Join}
 use Rattle.definitions.specs.Kinds as rules
 use Rattle.definitions.specs.Definition1.{Formula, prop, yea, nay, neg, join}
 use Rattle.systems.specs.declared.kinds.SystemKind.{SystemKind}
 use Rattle.systems.specs.declared.kinds.SystemKind.TheVariants.{Plain, Next, Elsewhere, Nothing}
-use Rattle.systems.specs.Kinds.{initial_mark, step_mark, kind_of}
-use Rattle.systems.specs.Reading.{last_variable, variable_count, Outcome, good, fault, Need, mark, formula, body, Value, Rest, scan, misplaced, take_formula, parts, parse}
-use Rattle.systems.specs.Spelling.{spell, Spells}
-use Rattle.systems.specs.Answer.{accepted, refused, placed, answer}
-use Rattle.systems.specs.Faults.{Whole, Begins, StopsAt, BodyAt, Wrong, unknown_kind, wrong_sort, no_proposition, SystemFault, too_long, ended, stopped, left_over}
+use Rattle.systems.specs.Kinds.{kind_of}
+use Rattle.systems.specs.Reading.{last_variable, variable_count, Outcome, good, fault, Need, mark, formula, body, Rest, scan, misplaced, take_formula, parts, parse}
+use Rattle.systems.specs.Spelling.{Spells}
+use Rattle.systems.specs.Answer.{refused, placed, answer}
+use Rattle.systems.specs.Faults.{Whole, Begins, StopsAt, Wrong, unknown_kind, wrong_sort, no_proposition, SystemFault, too_long, ended, stopped, left_over}
 use Rattle.systems.proofs.Spelled.{reads, spelt_is_read, read_is_spelt}
 
 no_good : {n p : ℕ} {f g : Formula} → fault n p ≡ good f g → ⊥

@@ -3,10 +3,9 @@
 use Prim.Native.Nat.{ℕ, ◌+◌, ◌<◌, ◌≤◌}
 use native.Mathlib.Numerals.{add-one}
 use native.Mathlib.Omega.{arith}
-use mathlib.Core.Path.{◌≡◌, refl, ap, ◌∙◌}
-use mathlib.Core.Bool.{Bool, true, false, cond}
+use mathlib.Core.Path.{◌≡◌, ap, ◌∙◌}
+use mathlib.Core.Bool.{Bool}
 use mathlib.Core.List.{List, [], ◌∷◌}
-use lib.Dec.{eqb}
 use lib.ListN.{length, get_or, drop, drop_of_length-le}
 use lib.Seq.{drop-cons}
 use borrow.Author.Tests.{le-leb, lt-leb, eq-eqb, ne_eqb}
@@ -16,7 +15,7 @@ use Rattle.systems.specs.declared.kinds.SystemKind.TheVariants.{Next}
 use Rattle.systems.specs.declared.Refusal.{Refusal}
 use Rattle.systems.specs.declared.Refusal.TheVariants.{Ended, NoProposition}
 use Rattle.systems.specs.Kinds.{kind_of}
-use Rattle.systems.specs.Reading.{last_variable, variable_count, Outcome, fault, Need, mark, formula, body, Value, Rest, scan, misplaced, take_next, take_formula}
+use Rattle.systems.specs.Reading.{last_variable, variable_count, Outcome, fault, Need, mark, formula, body, Rest, scan, misplaced, take_next, take_formula}
 use Rattle.systems.specs.inner.Places.{Here, BodyHere, FormulaAt, a_prop, a_next, a_yea, a_nay, a_neg, a_join}
 use Rattle.systems.specs.inner.Walks.{shown, Fails, MarkHere}
 

@@ -1,4 +1,6 @@
 // Reads a transition system in the house form, two formulas: 30 and one for the initial states, 31 and one for the step.
+#![tactic(auto)]
+
 ghost use Rattle.std.specs.Prelude.{◌≡◌};
 ghost use Rattle.systems.specs.Refusals.{number, place};
 ghost use Rattle.systems.specs.Answer.{told, answer};
@@ -12,7 +14,7 @@ use ends::{Read, formula_end, step_start};
 const LONGEST_SYSTEM: usize = 255;
 
 // Why a system is refused, and at which place of its bytes.
-#[derive(Drop)]
+#[derive(Clone, Copy)]
 pub enum Refusal {
     // there are too many bytes
     TooLong,

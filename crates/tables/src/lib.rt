@@ -1,4 +1,6 @@
 // Builds the table of a rule in place in a lent slice.
+#![tactic(auto)]
+
 ghost use Rattle.std.specs.Prelude.{◌≡◌, ◌≤◌, length};
 ghost use Rattle.definitions.specs.Definition1.{Rule};
 ghost use Rattle.rules.specs.Answer.{AcceptedAs};
@@ -11,7 +13,7 @@ use definitions::numbers::SHORT_SLICE;
 use rules::{Known, RuleAnswer};
 
 // Why no table is built.
-#[derive(Drop)]
+#[derive(Clone, Copy)]
 pub enum Refusal {
     // the rule's own
     OfRule(definitions::Refusal),

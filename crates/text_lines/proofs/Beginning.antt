@@ -1,8 +1,8 @@
 -- The line of an input is that of its first 1,282 bytes: what comes after is past the longest text and the newline that may close it. Assumes nothing.
-use Prim.Native.Nat.{ℕ, ◌≤◌, ◌<◌}
+use Prim.Native.Nat.{ℕ, ◌<◌}
 use native.Mathlib.Omega.{arith}
 use native.Mathlib.Decide.{dec_lt}
-use mathlib.Core.Path.{◌≡◌, subst}
+use mathlib.Core.Path.{subst}
 use mathlib.Core.List.{List}
 use lib.ListN.{length, take, replicate, length-take}
 use lib.Seq.{take_all}

@@ -1,4 +1,6 @@
 // The line that says what reading a rule's text comes to: the rule's bytes as hexadecimal numbers of two digits with blanks between, or `refused N at P`.
+#![tactic(auto)]
+
 ghost use Rattle.std.specs.Prelude.{◌+◌, ◌*◌, ◌≤◌, ◌<◌, ◌≡◌, ◌∷◌, length};
 ghost use Rattle.texts.specs.Answer.{told};
 ghost use Rattle.writing.specs.Wrote.{Wrote};

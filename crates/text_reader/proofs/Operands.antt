@@ -1,9 +1,9 @@
 -- What stands after "(" and after "{", and a formula that stands as a rule: the first operand, and what follows it. Assumes nothing.
 use Prim.Native.Nat.{ℕ, ◌+◌, ◌*◌, ◌≤◌, ◌<◌}
 use native.Mathlib.Omega.{arith}
-use mathlib.Core.Path.{◌≡◌, refl, sym, ap, subst, ◌∙◌}
+use mathlib.Core.Path.{◌≡◌, refl, ap, subst, ◌∙◌}
 use mathlib.Core.List.{List, [], ◌∷◌, ◌++◌, append_assoc}
-use lib.ListN.{length, drop, length-append}
+use lib.ListN.{length, drop}
 use Rattle.definitions.specs.declared.kinds.Junction.{Junction}
 use Rattle.definitions.specs.declared.kinds.Junction.TheVariants.{And, Or}
 use Rattle.definitions.specs.declared.kinds.Pair.{Pair}
@@ -15,12 +15,12 @@ use Rattle.grammar.specs.declared.signs.Sign.{Sign}
 use Rattle.grammar.specs.declared.signs.Sign.TheVariants as signed
 use Rattle.text_reader.specs.declared.reader.Taken.{Taken}
 use Rattle.text_reader.specs.declared.reader.Taken.TheVariants.{Upto, Broken}
-use Rattle.grammar.specs.Text.{junction_char, pair_sign, text}
+use Rattle.grammar.specs.Text.{junction_char, pair_sign}
 use Rattle.grammar.specs.inner.Reading.{Need, rule, formula, junction, tail, bracket, occurrence, sign, Counts, uncounted, from, Bracket, plus, starred, pair, repeated, Value, Values, Rest, row, bracketed, closed, standing, rows, scan}
-use Rattle.grammar.specs.inner.Values.{text_n, tail_text, texts}
+use Rattle.grammar.specs.inner.Values.{texts}
 use Rattle.grammar.specs.inner.Wide.{head_length, head_bytes, plain_head, bracket_head, standing_head, wide}
 use Rattle.writing.specs.Wrote.{Wrote}
-use Rattle.grammar.specs.inner.Places.{At, Part, Fails, Passes, HeadedAt, by, unheaded, BracketAt, OccurrenceAt, Operator, SignAt, operator, repetition, no_sign}
+use Rattle.grammar.specs.inner.Places.{At, Fails, Passes, HeadedAt, by, unheaded, BracketAt, OccurrenceAt, Operator, SignAt, operator, repetition, no_sign}
 use Rattle.text_reader.specs.inner.Takings.{Took, TakenAs, took, broke, JoinTaken, LetterTaken, BraceTaken, Heads, heads, no_head}
 use Rattle.grammar.proofs.Lengths.{formula_long, formula_lengths, text_long, wide_lengths}
 use Rattle.grammar.proofs.Rights.{rights}

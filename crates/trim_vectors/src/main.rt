@@ -1,8 +1,10 @@
 // Prints what trimming comes to: labels, weights and finals, every refusal, and the search over the trimmed table.
+#![tactic(auto)]
+
 use automata::{STATES, TABLE_ENTRIES};
-use libc::STDOUT_FILENO;
 use passes::inner::Searched;
 use search::SearchAnswer;
+use std::io;
 use tables::TableAnswer;
 use trims::TrimAnswer;
 
@@ -24,28 +26,28 @@ const HALF: [u8; 10] = *b"\x14\x10\x01\x00\x12\x10\x01\x00\x10\x03";
 const MODEL: [u8; 33] =
     *b"\x20\x01\x01\x02\x00\x00\x00\x00\x00\x00\x00\x20\x02\x00\x06\x00\x00\x00\x00\x00\x00\x00\x20\x04\x00\x04\x00\x00\x00\x00\x00\x00\x00";
 
-fn print(bytes: &[u8]) {
-    io::write_all(STDOUT_FILENO, bytes);
+fn print(rt: &impl Print, bytes: &[u8]) -> io::Result<()> {
+    rt.write_all(bytes)
 }
 
-fn number(n: u64) {
-    io::print_decimal(STDOUT_FILENO, n);
+fn number(rt: &impl Print, n: u64) -> io::Result<()> {
+    print!(rt; "{n}")
 }
 
-fn refused(number_of: u64, place: usize) {
-    print(b"refused ");
-    number(number_of);
-    print(b" at ");
-    number(place as u64);
-    print(b"\n");
+fn refused(rt: &impl Print, number_of: u64, place: usize) -> io::Result<()> {
+    print(rt, b"refused ")?;
+    number(rt, number_of)?;
+    print(rt, b" at ")?;
+    number(rt, place as u64)?;
+    print(rt, b"\n")
 }
 
-fn sizes(word: &[u8], weight: usize, finals: u64) {
-    print(word);
-    number(weight as u64);
-    print(b" finals ");
-    io::print_hex(STDOUT_FILENO, finals, 16);
-    print(b"\n");
+fn sizes(rt: &impl Print, word: &[u8], weight: usize, finals: u64) -> io::Result<()> {
+    print(rt, word)?;
+    number(rt, weight as u64)?;
+    print(rt, b" finals ")?;
+    print!(rt; "{finals:016x}")?;
+    print(rt, b"\n")
 }
 
 // Where the label from p to q stands.
@@ -59,32 +61,35 @@ fn place(p: usize, q: usize) -> usize {
 }
 
 // The label from p to q, if there is one.
-fn show_label(table: &[u64], p: usize, q: usize) {
+fn show_label(rt: &impl Print, table: &[u64], p: usize, q: usize) -> io::Result<()> {
     let at = place(p, q);
     if at < table.len() {
         let label = table[at];
         if label != 0 {
-            print(b"  ");
-            number(p as u64);
-            print(b" to ");
-            number(q as u64);
-            print(b" ");
-            io::print_hex(STDOUT_FILENO, label, 16);
-            print(b"\n");
+            print(rt, b"  ")?;
+            number(rt, p as u64)?;
+            print(rt, b" to ")?;
+            number(rt, q as u64)?;
+            print(rt, b" ")?;
+            print!(rt; "{label:016x}")?;
+            print(rt, b"\n")?;
         }
     }
+    Ok(())
 }
 
-fn show_row(table: &[u64], p: usize) {
+fn show_row(rt: &impl Print, table: &[u64], p: usize) -> io::Result<()> {
     for q in 0..STATES {
-        show_label(table, p, q);
+        show_label(rt, table, p, q)?;
     }
+    Ok(())
 }
 
-fn show_labels(table: &[u64]) {
+fn show_labels(rt: &impl Print, table: &[u64]) -> io::Result<()> {
     for p in 0..STATES {
-        show_row(table, p);
+        show_row(rt, table, p)?;
     }
+    Ok(())
 }
 
 // Whether the entry past the table is as it was.
@@ -96,44 +101,47 @@ fn past_kept(table: &[u64]) -> bool {
 }
 
 // What trimming comes to, with the labels that the slice then has.
-fn show_trimmed(answer: TrimAnswer, table: &[u64]) {
+fn show_trimmed(rt: &impl Print, answer: TrimAnswer, table: &[u64]) -> io::Result<()> {
     match answer {
-        TrimAnswer::Refused(x) => refused(x.number(), x.place()),
+        TrimAnswer::Refused(x) => refused(rt, x.number(), x.place())?,
         TrimAnswer::Trimmed(trimmed) => {
-            sizes(b"trimmed ", trimmed.weight, trimmed.finals);
-            show_labels(table);
+            sizes(rt, b"trimmed ", trimmed.weight, trimmed.finals)?;
+            show_labels(rt, table)?;
         }
     }
     if !past_kept(table) {
-        print(b"past the table something changed\n");
+        print(rt, b"past the table something changed\n")?;
     }
+    Ok(())
 }
 
 // Trims the slice, and what came of it once more.
-fn trim(table: &mut [u64], weight: usize, finals: u64) {
+fn trim(rt: &impl Print, table: &mut [u64], weight: usize, finals: u64) -> io::Result<()> {
     let answer = trims::trim(table, weight, finals);
-    show_trimmed(answer, table);
+    show_trimmed(rt, answer, table)?;
     if let TrimAnswer::Trimmed(first) = answer {
-        print(b"again ");
+        print(rt, b"again ")?;
         let again = trims::trim(table, first.weight, first.finals);
-        show_trimmed(again, table);
+        show_trimmed(rt, again, table)?;
     }
+    Ok(())
 }
 
 // A rule's table before and after.
-fn build_and_trim(rule: &[u8]) {
+fn build_and_trim(rt: &impl Print, rule: &[u8]) -> io::Result<()> {
     let mut table = [OLD; LENT];
     let answer = tables::build(rule, &mut table);
     match answer {
-        TableAnswer::Refused(x) => refused(x.number(), x.place()),
+        TableAnswer::Refused(x) => refused(rt, x.number(), x.place())?,
         TableAnswer::Tabled {
             rule: known,
             finals,
         } => {
-            sizes(b"built ", known.weight, finals);
-            trim(&mut table, known.weight, finals);
+            sizes(rt, b"built ", known.weight, finals)?;
+            trim(rt, &mut table, known.weight, finals)?;
         }
     }
+    Ok(())
 }
 
 fn put(table: &mut [u64], at: usize, v: u64) {
@@ -143,82 +151,85 @@ fn put(table: &mut [u64], at: usize, v: u64) {
 }
 
 // A table of two labels: from p to q by p0's letters, and from 0 to itself by letter 0.
-fn lent(p: usize, q: usize, weight: usize, finals: u64) {
+fn lent(rt: &impl Print, p: usize, q: usize, weight: usize, finals: u64) -> io::Result<()> {
     let mut table = [0u64; LENT];
     put(&mut table, 0, 1);
     put(&mut table, place(p, q), 0xaaaa_aaaa_aaaa_aaaa);
     put(&mut table, TABLE_ENTRIES, OLD);
-    trim(&mut table, weight, finals);
+    trim(rt, &mut table, weight, finals)
 }
 
-fn refusals() {
+fn refusals(rt: &impl Print) -> io::Result<()> {
     let mut short = [0u64; TABLE_ENTRIES - 1];
-    trim(&mut short, 0, 1);
-    lent(0, 1, 0, 0);
-    lent(0, 1, 65, 1);
-    lent(0, 1, 2, 4);
-    lent(0, 2, 2, 1);
-    lent(2, 0, 2, 1);
-    lent(63, 63, 63, 1);
+    trim(rt, &mut short, 0, 1)?;
+    lent(rt, 0, 1, 0, 0)?;
+    lent(rt, 0, 1, 65, 1)?;
+    lent(rt, 0, 1, 2, 4)?;
+    lent(rt, 0, 2, 2, 1)?;
+    lent(rt, 2, 0, 2, 1)?;
+    lent(rt, 63, 63, 63, 1)
 }
 
-fn byte(b: u8) {
-    number(b as u64);
+fn byte(rt: &impl Print, b: u8) -> io::Result<()> {
+    number(rt, b as u64)
 }
 
-fn show_state(run: &[u8], i: usize) {
+fn show_state(rt: &impl Print, run: &[u8], i: usize) -> io::Result<()> {
     if i < run.len() {
-        print(b" ");
-        byte(run[i]);
+        print(rt, b" ")?;
+        byte(rt, run[i])?;
     }
+    Ok(())
 }
 
-fn show_run(run: &[u8], long: usize) {
+fn show_run(rt: &impl Print, run: &[u8], long: usize) -> io::Result<()> {
     for i in 0..long {
-        show_state(run, i);
+        show_state(rt, run, i)?;
     }
+    Ok(())
 }
 
-fn found(run: &[u8], long: usize, pairs: usize) {
-    print(b"found ");
-    number(long as u64);
-    print(b" pairs ");
-    number(pairs as u64);
-    print(b":");
-    show_run(run, long);
-    print(b"\n");
+fn found(rt: &impl Print, run: &[u8], long: usize, pairs: usize) -> io::Result<()> {
+    print(rt, b"found ")?;
+    number(rt, long as u64)?;
+    print(rt, b" pairs ")?;
+    number(rt, pairs as u64)?;
+    print(rt, b":")?;
+    show_run(rt, run, long)?;
+    print(rt, b"\n")
 }
 
 // What a search came to, and the table that it left, if it was made.
-fn show_search(answer: SearchAnswer, table: &[u64], run: &[u8]) {
+fn show_search(rt: &impl Print, answer: SearchAnswer, table: &[u64], run: &[u8]) -> io::Result<()> {
     match answer {
         SearchAnswer::Refused(x) => {
-            refused(x.number(), x.place());
-            return;
+            refused(rt, x.number(), x.place())?;
+            return Ok(());
         }
         SearchAnswer::Answered { searched, rule: _ } => match searched {
-            Searched::Found { long, pairs } => found(run, long, pairs),
+            Searched::Found { long, pairs } => found(rt, run, long, pairs)?,
             Searched::Nothing { pairs } => {
-                print(b"none pairs ");
-                number(pairs as u64);
-                print(b"\n");
+                print(rt, b"none pairs ")?;
+                number(rt, pairs as u64)?;
+                print(rt, b"\n")?;
             }
         },
     }
-    show_labels(table);
+    show_labels(rt, table)?;
     if !past_kept(table) {
-        print(b"past the table something changed\n");
+        print(rt, b"past the table something changed\n")?;
     }
+    Ok(())
 }
 
 // The two searches.
-fn search_both(rule: &[u8], model: &[u8], run: &mut [u8]) {
+fn search_both(rt: &impl Print, rule: &[u8], model: &[u8], run: &mut [u8]) -> io::Result<()> {
     let mut table = [OLD; LENT];
     let mut marks = [1u16; LENT];
     let mut useful = [1u16; LENT];
     let whole = search::search(rule, model, &mut table, &mut marks, &mut useful, run);
-    print(b"search ");
-    show_search(whole, &table, run);
+    print(rt, b"search ")?;
+    show_search(rt, whole, &table, run)?;
     let trimmed = trimmed_search::search_trimmed(
         rule,
         model,
@@ -227,27 +238,27 @@ fn search_both(rule: &[u8], model: &[u8], run: &mut [u8]) {
         &mut useful,
         run,
     );
-    print(b"trimmed ");
-    show_search(trimmed, &table, run);
+    print(rt, b"trimmed ")?;
+    show_search(rt, trimmed, &table, run)
 }
 
-fn searches() {
-    search_both(&EXAMPLE, &MODEL, &mut [0u8; LENT]);
-    search_both(&HALF, &MODEL, &mut [0u8; LENT]);
-    search_both(&NOTHING, &MODEL, &mut [0u8; LENT]);
-    search_both(b"\x10\x01\x06", &MODEL, &mut [0u8; LENT]);
-    search_both(&EXAMPLE, b"\x20\x40", &mut [0u8; LENT]);
-    search_both(&EXAMPLE, &MODEL, &mut [0u8; TABLE_ENTRIES - 1]);
+fn searches(rt: &impl Print) -> io::Result<()> {
+    search_both(rt, &EXAMPLE, &MODEL, &mut [0u8; LENT])?;
+    search_both(rt, &HALF, &MODEL, &mut [0u8; LENT])?;
+    search_both(rt, &NOTHING, &MODEL, &mut [0u8; LENT])?;
+    search_both(rt, b"\x10\x01\x06", &MODEL, &mut [0u8; LENT])?;
+    search_both(rt, &EXAMPLE, b"\x20\x40", &mut [0u8; LENT])?;
+    search_both(rt, &EXAMPLE, &MODEL, &mut [0u8; TABLE_ENTRIES - 1])
 }
 
-fn main() {
-    build_and_trim(&EXAMPLE);
-    build_and_trim(&NOTHING);
-    build_and_trim(&HALF);
+fn main(rt: HostRuntime) -> io::Result<()> {
+    build_and_trim(&rt, &EXAMPLE)?;
+    build_and_trim(&rt, &NOTHING)?;
+    build_and_trim(&rt, &HALF)?;
     // Labels into state 0, and a final that nothing reaches.
-    lent(1, 0, 2, 2);
-    lent(0, 3, 4, 8);
-    lent(3, 0, 4, 1);
-    refusals();
-    searches();
+    lent(&rt, 1, 0, 2, 2)?;
+    lent(&rt, 0, 3, 4, 8)?;
+    lent(&rt, 3, 0, 4, 1)?;
+    refusals(&rt)?;
+    searches(&rt)
 }

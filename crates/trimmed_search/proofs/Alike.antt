@@ -1,6 +1,6 @@
 -- The search over the trimmed table gives the run and the refusals of `search`. Assumes nothing.
 use Prim.Native.Nat.{ℕ}
-use mathlib.Core.Path.{◌≡◌, refl, sym, ap, ap₂, subst, ◌∙◌}
+use mathlib.Core.Path.{◌≡◌, sym, ap₂, subst}
 use mathlib.Core.List.{List}
 use Rattle.definitions.specs.Definition1.{Rule}
 use Rattle.rules.specs.Answer.{known_of}

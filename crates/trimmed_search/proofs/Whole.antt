@@ -1,13 +1,10 @@
 -- From what the builder, the trimmer and the search over a table promise to what the call promises. Assumes nothing.
 use Prim.Native.Nat.{ℕ, ◌≤◌}
 use native.Mathlib.Omega.{arith}
-use mathlib.Core.Path.{◌≡◌, sym}
 use mathlib.Core.List.{List}
 use lib.ListN.{length}
 use Rattle.rules.specs.declared.Known.{Known}
-use Rattle.definitions.specs.Definition1.{Rule}
 use Rattle.rules.specs.Weight.{weight_of}
-use Rattle.rules.specs.Answer.{known_of}
 use Rattle.automata.specs.Table.{table_entries, table_of}
 use Rattle.automata.specs.IsTable.{Words}
 use Rattle.automata.specs.Promise.{Serves}

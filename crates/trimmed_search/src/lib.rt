@@ -1,4 +1,6 @@
 // Searches a model for a rule as `search` does, over the rule's table without the states that do no work.
+#![tactic(auto)]
+
 ghost use Rattle.search.specs.Answer.{slices, told};
 ghost use Rattle.trimmed_search.specs.Answer.{TrimmedSearchRight};
 

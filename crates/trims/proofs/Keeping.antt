@@ -13,7 +13,7 @@ use Rattle.bits.proofs.Sayings.{says_map, says_some}
 use Rattle.bits.proofs.Members.{members_first, members_and, add_out, add_old, add_new}
 use Rattle.bits.proofs.Resting.{in_word}
 use Rattle.automata.specs.Table.{cell}
-use Rattle.trims.specs.Paths.{Link, Reach, first, next, Ends, here, on}
+use Rattle.trims.specs.Paths.{Reach, first, next, Ends, here, on}
 use Rattle.trims.specs.Kept.{Kept, start, passes, KeptSet}
 use Rattle.trims.specs.Stands.{Stands}
 use Rattle.trims.specs.inner.Grown.{Beside, Grown, given, grown}

@@ -10,7 +10,7 @@ use lib.ListN.{get_or}
 use borrow.Author.Tests.{lt-ltb, le-ltb}
 use Rattle.bits.specs.Word.{bit, word, insert}
 use Rattle.bits.proofs.Laws.{lt_or_ge, word_step, word_skip}
-use Rattle.automata.specs.Table.{table_states, cell}
+use Rattle.automata.specs.Table.{cell}
 use Rattle.automata.specs.inner.Cells.{In, Put}
 use Rattle.trims.specs.inner.Moves.{Rising, moved_label_of, moved_final}
 

@@ -14,7 +14,6 @@ use Rattle.rules.proofs.Once.{told_once}
 use Rattle.automata.specs.Table.{table_states, table_entries, cell}
 use Rattle.tables.proofs.promise.Beyonds.{beyond_once}
 use Rattle.trims.specs.declared.Refusal.TheVariants.{ShortTable, NoTable}
-use Rattle.trims.specs.declared.TrimmedTable.{TrimmedTable}
 use Rattle.trims.specs.declared.TrimAnswer.{TrimAnswer}
 use Rattle.trims.specs.declared.TrimAnswer.TheVariants as variants
 use Rattle.trims.specs.Kept.{KeptSet, new_number}

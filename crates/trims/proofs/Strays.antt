@@ -1,6 +1,6 @@
 -- What the tests of a lent table tell. Assumes nothing.
 use Prim.Native.Nat.{ℕ, ◌-◌, ◌^◌, ◌<◌, ◌≤◌}
-use mathlib.Core.Path.{◌≡◌, refl, sym, ap, subst, ◌∙◌}
+use mathlib.Core.Path.{◌≡◌, refl, sym, ap, ◌∙◌}
 use mathlib.Core.Logic.{◌≢◌, ◌⊎◌, inl, inr, ⊎_elim}
 use mathlib.Core.Bool.{Bool, true, false, not, false≢true}
 use mathlib.Core.List.{List}
@@ -10,9 +10,8 @@ use lib.Dec.{T, eqb, leb, ltb}
 use borrow.Author.Tests.{le-ltb, ltb-false}
 use Rattle.bits.specs.Word.{bit, all}
 use Rattle.bits.specs.Says.{Says}
-use Rattle.bits.specs.Sets.{Over}
 use Rattle.bits.proofs.Laws.{lt_or_ge, bit_all, bit_not}
-use Rattle.bits.proofs.Truths.{true_T, T_true, false_no}
+use Rattle.bits.proofs.Truths.{true_T}
 use Rattle.bits.proofs.Sayings.{says_map, says_le, say_yes, say_no}
 use Rattle.bits.proofs.Resting.{in_word, meet_says}
 use Rattle.bits.proofs.Firsts.{all_lt}

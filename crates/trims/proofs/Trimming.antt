@@ -3,14 +3,14 @@ use Prim.Native.Nat.{ℕ, ◌+◌, ◌*◌, ◌/◌, ◌%◌, ◌^◌, ◌<◌, 
 use native.Mathlib.Omega.{arith}
 use native.Mathlib.Decide.{ℕ_discrete}
 use mathlib.Core.Path.{◌≡◌, refl, sym, ap, ap₂, subst, ◌∙◌}
-use mathlib.Core.Logic.{◌⊎◌, inl, inr, ⊎_elim}
+use mathlib.Core.Logic.{◌⊎◌, inl, inr}
 use mathlib.Core.Bool.{Bool, true, false, not}
 use mathlib.Core.List.{List}
 use lib.Dec.{T}
 use lib.ListN.{get_or, length}
 use borrow.Author.Tests.{not-true, not-false}
-use Rattle.bits.specs.Word.{bit, word, many}
-use Rattle.bits.proofs.Laws.{bit_word, bit_above, word_lt, lt_or_ge}
+use Rattle.bits.specs.Word.{bit, word}
+use Rattle.bits.proofs.Laws.{bit_word, bit_above, word_lt}
 use Rattle.definitions.specs.Numbers.{short_slice_number, no_table_number}
 use Rattle.automata.specs.Table.{table_states, table_entries, cell}
 use Rattle.automata.specs.inner.Cells.{In, Put}
@@ -25,7 +25,6 @@ use Rattle.trims.specs.inner.Lists.{Lists}
 use Rattle.trims.specs.inner.Moves.{moved_label_of, moved_final, moved_finals_of}
 use Rattle.trims.proofs.Numbers.{number_less, number_once, number_le}
 use Rattle.trims.proofs.Ways.{kept_inside}
-use Rattle.trims.proofs.Listing.{lists_few}
 use Rattle.trims.proofs.Moving.{moved_here, moved_row_none, moved_column_none}
 
 -- a rectangle of the table leaves the entries past it

@@ -1,4 +1,6 @@
 // Takes the states that do no work out of a lent table, in place: state 0 stays, and each state on a path from it to a final.
+#![tactic(auto)]
+
 ghost use Rattle.std.specs.Prelude.{◌≡◌, ◌≤◌, length};
 ghost use Rattle.automata.specs.Table.{table_entries};
 ghost use Rattle.trims.specs.Stands.{Stands};
@@ -15,7 +17,7 @@ mod list; // the members of a set, in rising order
 mod moves; // labels and finals at their new numbers
 
 // Why a table is not trimmed.
-#[derive(Drop)]
+#[derive(Clone, Copy)]
 pub enum Refusal {
     // the slice is too short for a table
     ShortTable,
@@ -46,14 +48,14 @@ impl Refusal {
 }
 
 // What a trimmed table is besides its labels: its weight, and the set of its final states.
-#[derive(Drop)]
+#[derive(Clone, Copy)]
 pub struct TrimmedTable {
     pub weight: usize,
     pub finals: u64,
 }
 
 // What trimming comes to.
-#[derive(Drop)]
+#[derive(Clone, Copy)]
 pub enum TrimAnswer {
     // The slice begins with the trimmed table.
     Trimmed(TrimmedTable),

@@ -3,6 +3,7 @@ use crate::bytes::front;
 use crate::draws::{draw_letters, draw_rule};
 use crate::show;
 use judge::JudgeAnswer;
+use std::io;
 use tables::TableAnswer;
 use walkers::FollowAnswer;
 
@@ -119,16 +120,16 @@ fn one_case(space: &mut [u8], letters: &mut [u8], table: &mut [u64], p: Progress
     }
 }
 
-fn report(t: Tally) {
-    show::text(b"judge and table on drawn rules: both yes ");
-    show::number(t.yes);
-    show::text(b", both no ");
-    show::number(t.no);
-    show::text(b", both refused ");
-    show::number(t.refused);
-    show::text(b", apart ");
-    show::number(t.apart);
-    show::text(b"\n");
+fn report(rt: &impl Print, t: Tally) -> io::Result<()> {
+    show::text(rt, b"judge and table on drawn rules: both yes ")?;
+    show::number(rt, t.yes)?;
+    show::text(rt, b", both no ")?;
+    show::number(rt, t.no)?;
+    show::text(rt, b", both refused ")?;
+    show::number(rt, t.refused)?;
+    show::text(rt, b", apart ")?;
+    show::number(rt, t.apart)?;
+    show::text(rt, b"\n")
 }
 
 fn start() -> Progress {
@@ -151,7 +152,12 @@ fn all_cases(space: &mut [u8], letters: &mut [u8], table: &mut [u64]) -> Progres
     p
 }
 
-pub fn run(space: &mut [u8], letters: &mut [u8], table: &mut [u64]) {
+pub fn run(
+    rt: &impl Print,
+    space: &mut [u8],
+    letters: &mut [u8],
+    table: &mut [u64],
+) -> io::Result<()> {
     let p = all_cases(space, letters, table);
-    report(p.tally);
+    report(rt, p.tally)
 }

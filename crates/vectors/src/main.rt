@@ -1,4 +1,6 @@
 // Runs the papers' cases and prints what came out, a line for each; the file stdout holds what should come out.
+#![tactic(auto)]
+
 mod agree;
 mod bytes;
 mod draws;
@@ -8,13 +10,15 @@ mod show;
 mod table_cases;
 mod walk_cases;
 
-fn main() {
+use std::io;
+
+fn main(rt: HostRuntime) -> io::Result<()> {
     let mut space = [0u8; 1024];
     let mut second = [0u8; 1024];
     let mut table = [0u64; 4096];
-    rule_cases::run(&mut space);
-    judge_cases::run(&mut space);
-    table_cases::run(&mut space, &mut table);
-    walk_cases::run(&mut space, &mut table);
-    agree::run(&mut space, &mut second, &mut table);
+    rule_cases::run(&rt, &mut space)?;
+    judge_cases::run(&rt, &mut space)?;
+    table_cases::run(&rt, &mut space, &mut table)?;
+    walk_cases::run(&rt, &mut space, &mut table)?;
+    agree::run(&rt, &mut space, &mut second, &mut table)
 }

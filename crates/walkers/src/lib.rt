@@ -1,4 +1,6 @@
 // Follows letters through a lent table: a walker that is stepped, and a whole sequence at once.
+#![tactic(auto)]
+
 ghost use Rattle.std.specs.Prelude.{◌≡◌, ◌<◌};
 ghost use Rattle.walkers.specs.Refusals.{number, place};
 ghost use Rattle.walkers.specs.Steps.{largest_count, walker_at, start_of, refused_as, led_to_of, given, told, step_of};
@@ -17,7 +19,7 @@ pub const LARGEST_COUNT: u32 = 4294967295;
 
 // The states that it may be in, and the final states; how many letters it has taken, how many it had taken at its first
 // match, 0 if there is none yet, and whether there is one.
-#[derive(Drop)]
+#[derive(Clone, Copy)]
 pub struct Walker {
     pub set: u64,
     pub finals: u64,
@@ -27,7 +29,7 @@ pub struct Walker {
 }
 
 // Why there is no step.
-#[derive(Drop)]
+#[derive(Clone, Copy)]
 pub enum Refusal {
     // the table has too few entries
     ShortTable,
@@ -62,7 +64,7 @@ impl Refusal {
 }
 
 // What a step says: whether a final is in the set that it moved to.
-#[derive(Drop)]
+#[derive(Clone, Copy)]
 pub enum StepAnswer {
     Moved(bool),
     Refused(Refusal),

@@ -1,4 +1,6 @@
 // Bytes, words, numbers and refusals as text, each written from a place of a lent slice on; the answer is the place after it.
+#![tactic(auto)]
+
 ghost use Rattle.std.specs.Prelude.{◌+◌, ◌≤◌, ◌<◌, ◌≡◌, [], ◌∷◌, length, take, drop};
 ghost use Rattle.writing.specs.Decimal.{digit as digit-of, decimal, named};
 ghost use Rattle.writing.specs.Refused.{refused_text};

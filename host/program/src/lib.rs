@@ -16,7 +16,7 @@ const PROGRAM_VARIABLE: &str = "RULECHECK";
 const PATIENCE: Duration = Duration::from_secs(60);
 const PAUSE: Duration = Duration::from_millis(2);
 
-/// The program: the one that is named, or where `rt check rulecheck` writes it.
+/// The program: the one that is named, or where `tools/programs` puts it.
 fn program() -> PathBuf {
     let program = match env::var_os(PROGRAM_VARIABLE) {
         Some(named) => PathBuf::from(named),
@@ -24,7 +24,7 @@ fn program() -> PathBuf {
     };
     assert!(
         program.is_file(),
-        "there is no rulecheck at {}: run `rt check rulecheck` in the repository's root",
+        "there is no rulecheck at {}: run `tools/programs` in the repository's root",
         program.display()
     );
     program

@@ -12,7 +12,7 @@ use std::thread;
 const PROGRAM_VARIABLE: &str = "RULETEXT";
 const MOST_CHARACTERS: usize = 1280;
 
-/// The program: the one that is named, or where `rt check ruletext` writes it.
+/// The program: the one that is named, or where `tools/programs` puts it.
 fn program() -> PathBuf {
     let program = match env::var_os(PROGRAM_VARIABLE) {
         Some(named) => PathBuf::from(named),
@@ -20,7 +20,7 @@ fn program() -> PathBuf {
     };
     assert!(
         program.is_file(),
-        "there is no ruletext at {}: run `rt check ruletext` in the repository's root",
+        "there is no ruletext at {}: run `tools/programs` in the repository's root",
         program.display()
     );
     program

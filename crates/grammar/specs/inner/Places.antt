@@ -16,7 +16,7 @@ use Rattle.grammar.specs.declared.signs.Headed.TheVariants as headed
 use Rattle.grammar.specs.declared.signs.Sign.{Sign}
 use Rattle.grammar.specs.declared.signs.Sign.TheVariants as signed
 use Rattle.grammar.specs.Text.{junction_char, pair_sign}
-use Rattle.grammar.specs.inner.Reading.{Which, high, Digits, all, Need, rule, formula, digit, junction, tail, bracket, star, occurrence, number, sign, starred, Tail, pair, Values, Rest, stop, others, more, counts, feed, given, broken, scan}
+use Rattle.grammar.specs.inner.Reading.{Which, high, Digits, all, Need, rule, junction, tail, bracket, star, occurrence, number, sign, starred, Tail, pair, Values, Rest, stop, others, more, counts, feed, given, broken, scan}
 use Rattle.grammar.specs.inner.Values.{digits, texts, Begun, Near, Smalls}
 use Rattle.grammar.specs.inner.Wide.{head_bytes, bracket_head, standing_head}
 

@@ -1,5 +1,5 @@
 -- What the readers promise of whatever stands at a place. Assumes nothing: these are definitions.
-use Rattle.std.specs.Prelude.{ℕ, ◌+◌, ◌<◌, ◌≤◌, ◌≡◌, Bool, true, false, List, [], ◌∷◌, length, get_or, drop}
+use Rattle.std.specs.Prelude.{ℕ, ◌+◌, ◌<◌, ◌≡◌, Bool, true, false, List, ◌∷◌, length, get_or, drop}
 use Rattle.definitions.specs.Definition1.{Formula}
 use Rattle.systems.specs.declared.Refusal.{Refusal}
 use Rattle.systems.specs.declared.ends.Read.{Read}

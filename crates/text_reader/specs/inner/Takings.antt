@@ -1,5 +1,5 @@
 -- What the reader promises of what it took from a place of the text on, and of the bytes that it wrote for it. Assumes nothing: these are definitions.
-use Rattle.std.specs.Prelude.{ℕ, ◌+◌, ◌-◌, ◌≡◌, List, [], ◌∷◌}
+use Rattle.std.specs.Prelude.{ℕ, ◌+◌, ◌≡◌, List, [], ◌∷◌}
 use Rattle.definitions.specs.Definition1.{prop, join}
 use Rattle.definitions.specs.Encoding.{spell_f}
 use Rattle.grammar.specs.declared.signs.Head.{Head}

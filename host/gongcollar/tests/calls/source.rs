@@ -1,6 +1,6 @@
-//! The header declares what the proved crates have, `c_answers` the structs and `exports` the calls: the same fields and
-//! the same parameters, by name, order and width. The proofs speak of the source; that the header says the same of its
-//! layout is held here.
+//! The header declares what the proved crates have, `c_answers` the structs and `exports_c` the calls: the same fields
+//! and the same parameters, by name, order and width. The proofs speak of the source; that the header says the same of
+//! its layout is held here.
 
 use crate::header;
 use crate::interface::{bare, between, c_type, listed, part, Answer, Call, Interface, Part};
@@ -8,12 +8,12 @@ use std::fs;
 use std::path::Path;
 
 const CRATES: &str = concat!(env!("CARGO_MANIFEST_DIR"), "/../../crates");
-const ANSWER: &str = "#[repr(C)] pub struct ";
-const CALL: &str = "#[no_mangle] pub extern \"C\" fn ";
+const ANSWER: &str = "#[repr(C)] ";
+const CALL: &str = "#[unsafe(no_mangle)] pub extern \"C\" fn ";
 
 /// All modules of both crates, one after the other.
 fn source() -> String {
-    let folders = ["c_answers", "exports"].map(|name| Path::new(CRATES).join(name).join("src"));
+    let folders = ["c_answers", "exports_c"].map(|name| Path::new(CRATES).join(name).join("src"));
     let files = folders.map(|folder| fs::read_dir(folder).expect("the source of the calls"));
     let texts = files
         .into_iter()
@@ -36,8 +36,9 @@ fn interface(source: &str) -> Interface {
     )
 }
 
-/// `GcDone { pub refused: u64, pub place: u64, `
+/// `#[derive(Drop)] pub struct GcDone { pub refused: u64, pub place: u64, `
 fn answer(text: &str) -> Answer {
+    let (_, text) = text.split_once("pub struct ").expect("a struct");
     let (name, fields) = text.split_once(" { ").expect("a struct with fields");
     let fields = listed(fields).map(|field| {
         let field = field.strip_prefix("pub ").expect("a public field");

@@ -1,0 +1,13 @@
+-- `c_answers::converting::done_numbers` meets its contract: what is given are the numbers of the case that the answer is. Assumes nothing.
+use mathlib.Core.Path.{refl}
+use Prim.Native.Nat.{ℕ}
+use Rattle.letter_rows.specs.Answer as rows
+use Rattle.c_answers.specs.Numbers.{done_numbers_of}
+use Rattle.c_answers.proofs.Given.{by_case, by_numbers, done_of}
+use Rattle.c_answers.proofs.converting.done_numbers.Goals as goal
+
+pub returns-in-Converted : goal.returns-in-Converted
+returns-in-Converted c = by_case done_of c.in-Converted.is refl
+
+pub returns-in-Refused : goal.returns-in-Refused
+returns-in-Refused c = by_case done_of c.in-Refused.is (by_numbers (λ (n p : ℕ). done_numbers_of (rows.refused n p)) refl c.number.ensures c.place.ensures)

@@ -1,0 +1,13 @@
+-- `c_answers::judging::judged_numbers` meets its contract: what is given are the numbers of the case that the answer is. Assumes nothing.
+use mathlib.Core.Path.{refl}
+use Prim.Native.Nat.{ℕ}
+use Rattle.judge.specs.Verdict as judge
+use Rattle.c_answers.specs.Numbers.{judged_numbers_of}
+use Rattle.c_answers.proofs.Given.{by_case, by_numbers, judged_of}
+use Rattle.c_answers.proofs.judging.judged_numbers.Goals as goal
+
+pub returns-in-Judged : goal.returns-in-Judged
+returns-in-Judged c = by_case judged_of c.in-Judged.is refl
+
+pub returns-in-Refused : goal.returns-in-Refused
+returns-in-Refused c = by_case judged_of c.in-Refused.is (by_numbers (λ (n p : ℕ). judged_numbers_of (judge.refused n p)) refl c.number.ensures c.place.ensures)

@@ -1,0 +1,13 @@
+-- `c_answers::lasting_states::lasting_numbers` meets its contract: what is given are the numbers of the case that the answer is. Assumes nothing.
+use mathlib.Core.Path.{refl}
+use Prim.Native.Nat.{ℕ}
+use Rattle.lasting.specs.Answer as lasting
+use Rattle.c_answers.specs.Numbers.{lasting_numbers_of}
+use Rattle.c_answers.proofs.Given.{by_case, by_numbers, lasting_of}
+use Rattle.c_answers.proofs.lasting_states.lasting_numbers.Goals as goal
+
+pub returns-in-Lasting : goal.returns-in-Lasting
+returns-in-Lasting c = by_case lasting_of c.in-Lasting.is refl
+
+pub returns-in-Refused : goal.returns-in-Refused
+returns-in-Refused c = by_case lasting_of c.in-Refused.is (by_numbers (λ (n p : ℕ). lasting_numbers_of (lasting.refused n p)) refl c.number.ensures c.place.ensures)

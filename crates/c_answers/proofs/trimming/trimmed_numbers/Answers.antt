@@ -1,0 +1,13 @@
+-- `c_answers::trimming::trimmed_numbers` meets its contract: what is given are the numbers of the case that the answer is. Assumes nothing.
+use mathlib.Core.Path.{refl}
+use Prim.Native.Nat.{ℕ}
+use Rattle.trims.specs.Answer as trims
+use Rattle.c_answers.specs.Numbers.{trimmed_numbers_of}
+use Rattle.c_answers.proofs.Given.{by_case, by_numbers, trimmed_of}
+use Rattle.c_answers.proofs.trimming.trimmed_numbers.Goals as goal
+
+pub returns-in-Trimmed : goal.returns-in-Trimmed
+returns-in-Trimmed c = by_case trimmed_of c.in-Trimmed.is refl
+
+pub returns-in-Refused : goal.returns-in-Refused
+returns-in-Refused c = by_case trimmed_of c.in-Refused.is (by_numbers (λ (n p : ℕ). trimmed_numbers_of (trims.refused n p)) refl c.number.ensures c.place.ensures)

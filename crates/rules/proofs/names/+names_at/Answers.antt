@@ -1,0 +1,143 @@
+-- The proof of the cycle of calls {names_at}. The measure is what is left of the bytes from `at` on. Assumes nothing.
+use Prim.Native.Nat.{◌+◌}
+use mathlib.Core.Path.{◌≡◌, sym, ap, ◌∙◌}
+use native.Mathlib.Omega.{arith}
+use lib.ListN.{get_or}
+use Rattle.definitions.specs.declared.kinds.FormulaKind.TheVariants.{Proposition, Truth, Falsity, Not, Join}
+use Rattle.definitions.specs.declared.kinds.Kind.TheVariants.{OfFormula}
+use Rattle.definitions.specs.Kinds.{kind_of}
+use Rattle.rules.proofs.Walks.{formula_here, is_formula, good_body, good_neg, good_left, good_right}
+use Rattle.rules.proofs.Naming.{n_prop, n_yea, n_nay, n_neg, n_join}
+use Rattle.rules.proofs.names.+names_at.Goals as goal
+
+pub bounds-rule-at : goal.bounds-rule-at
+bounds-rule-at t c = let s = c.args.rule.now in
+    let at = c.args.at in
+    let g = c.requires in
+    formula_here s at g
+
+pub returns-in_default : goal.returns-in_default
+returns-in_default t c =
+    let k = is_formula c.args.rule.now c.args.at c.requires in
+    absurd (c.in_default.not-OfFormula k.0 (c.kind_of.ensures ∙ k.1))
+
+pub overflow_add-body : goal.overflow_add-body
+overflow_add-body t c = let s = c.args.rule.now in
+    let at = c.args.at in
+    let g = c.requires in
+    let l = formula_here s at g in
+    omega arith
+
+pub bounds-rule-body : goal.bounds-rule-body
+bounds-rule-body t c = let s = c.args.rule.now in
+    let at = c.args.at in
+    let g = c.requires in
+    let q : kind_of (get_or s at 0) ≡ OfFormula Proposition = sym c.kind_of.ensures ∙ c.in-OfFormula.is ∙ ap OfFormula c.in-Proposition.is in
+    (good_body s at g q).0
+
+pub overflow_cast-rule : goal.overflow_cast-rule
+overflow_cast-rule t c = omega (arith, c.shared_slice_known-in-Proposition-1.given (c.args.at + 1))
+
+pub with-requires : goal.with-requires
+with-requires t c = let s = c.args.rule.now in
+    let at = c.args.at in
+    let g = c.requires in
+    let q : kind_of (get_or s at 0) ≡ OfFormula Proposition = sym c.kind_of.ensures ∙ c.in-OfFormula.is ∙ ap OfFormula c.in-Proposition.is in
+    let i = (good_body s at g q).1 in
+    omega arith
+
+pub overflow_add-result : goal.overflow_add-result
+overflow_add-result t c = let s = c.args.rule.now in
+    let at = c.args.at in
+    let g = c.requires in
+    let q : kind_of (get_or s at 0) ≡ OfFormula Proposition = sym c.kind_of.ensures ∙ c.in-OfFormula.is ∙ ap OfFormula c.in-Proposition.is in
+    let i = (good_body s at g q).0 in
+    omega arith
+
+pub overflow_add-result-in-Truth : goal.overflow_add-result-in-Truth
+overflow_add-result-in-Truth t c = let s = c.args.rule.now in
+    let at = c.args.at in
+    let g = c.requires in
+    let l = formula_here s at g in
+    omega arith
+
+pub overflow_add-result-in-Falsity : goal.overflow_add-result-in-Falsity
+overflow_add-result-in-Falsity t c = let s = c.args.rule.now in
+    let at = c.args.at in
+    let g = c.requires in
+    let l = formula_here s at g in
+    omega arith
+
+pub overflow_add-at : goal.overflow_add-at
+overflow_add-at t c = let s = c.args.rule.now in
+    let at = c.args.at in
+    let g = c.requires in
+    let l = formula_here s at g in
+    omega arith
+
+pub names_at-requires : goal.names_at-requires
+names_at-requires t c = let s = c.args.rule.now in
+    let at = c.args.at in
+    let g = c.requires in
+    let l = formula_here s at g in
+    let q : kind_of (get_or s at 0) ≡ OfFormula Not = sym c.kind_of.ensures ∙ c.in-OfFormula.is ∙ ap OfFormula c.in-Not.is in
+    (omega arith, good_neg s at g q)
+
+pub overflow_add-at-in-Join : goal.overflow_add-at-in-Join
+overflow_add-at-in-Join t c = let s = c.args.rule.now in
+    let at = c.args.at in
+    let g = c.requires in
+    let l = formula_here s at g in
+    omega arith
+
+pub names_at-a-requires : goal.names_at-a-requires
+names_at-a-requires t c = let s = c.args.rule.now in
+    let at = c.args.at in
+    let g = c.requires in
+    let l = formula_here s at g in
+    let q : kind_of (get_or s at 0) ≡ OfFormula (Join c.in-Join.field-0) = sym c.kind_of.ensures ∙ c.in-OfFormula.is ∙ ap OfFormula c.in-Join.is in
+    (omega arith, good_left s at g _ q)
+
+pub names_at-b-requires : goal.names_at-b-requires
+names_at-b-requires t c = let s = c.args.rule.now in
+    let at = c.args.at in
+    let g = c.requires in
+    let l = formula_here s at g in
+    let q : kind_of (get_or s at 0) ≡ OfFormula (Join c.in-Join.field-0) = sym c.kind_of.ensures ∙ c.in-OfFormula.is ∙ ap OfFormula c.in-Join.is in
+    let r = good_right s at g _ q c.names_at-a.result.end (λ f e d. (c.names_at-a.ensures f e d).1) in
+    (omega arith, r.0)
+
+pub returns-in-Proposition : goal.returns-in-Proposition
+returns-in-Proposition t c = let s = c.args.rule.now in
+    let at = c.args.at in
+    let g = c.requires in
+    let q : kind_of (get_or s at 0) ≡ OfFormula Proposition = sym c.kind_of.ensures ∙ c.in-OfFormula.is ∙ ap OfFormula c.in-Proposition.is in
+    n_prop s at q _ c.with.ensures
+
+pub returns-in-Truth : goal.returns-in-Truth
+returns-in-Truth t c = let s = c.args.rule.now in
+    let at = c.args.at in
+    let g = c.requires in
+    let q : kind_of (get_or s at 0) ≡ OfFormula Truth = sym c.kind_of.ensures ∙ c.in-OfFormula.is ∙ ap OfFormula c.in-Truth.is in
+    n_yea s at q
+
+pub returns-in-Falsity : goal.returns-in-Falsity
+returns-in-Falsity t c = let s = c.args.rule.now in
+    let at = c.args.at in
+    let g = c.requires in
+    let q : kind_of (get_or s at 0) ≡ OfFormula Falsity = sym c.kind_of.ensures ∙ c.in-OfFormula.is ∙ ap OfFormula c.in-Falsity.is in
+    n_nay s at q
+
+pub returns-in-Not : goal.returns-in-Not
+returns-in-Not t c = let s = c.args.rule.now in
+    let at = c.args.at in
+    let g = c.requires in
+    let q : kind_of (get_or s at 0) ≡ OfFormula Not = sym c.kind_of.ensures ∙ c.in-OfFormula.is ∙ ap OfFormula c.in-Not.is in
+    n_neg s at q c.names_at.result c.names_at.ensures
+
+pub returns-in-Join : goal.returns-in-Join
+returns-in-Join t c = let s = c.args.rule.now in
+    let at = c.args.at in
+    let g = c.requires in
+    let q : kind_of (get_or s at 0) ≡ OfFormula (Join c.in-Join.field-0) = sym c.kind_of.ensures ∙ c.in-OfFormula.is ∙ ap OfFormula c.in-Join.is in
+    n_join s at _ q c.names_at-a.result c.names_at-b.result c.names_at-a.ensures c.names_at-b.ensures
