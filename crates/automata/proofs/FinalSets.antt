@@ -7,7 +7,7 @@ use mathlib.Core.Logic.{◌⊎◌, inl, inr}
 use mathlib.Core.Bool.{true, false, ◌&&◌}
 use lib.Dec.{T}
 use Rattle.bits.specs.Word.{bit, word, insert}
-use Rattle.bits.proofs.Laws.{bit_shl, bit_shl_low, bit_mod, bit_word, bit_above, word_lt, word_step, word_skip, lt_or_ge}
+use Rattle.bits.proofs.Laws.{bit_shl, bit_shl_low, bit_mod, bit_word, bit_above, word_lt, lt_or_ge}
 use Rattle.definitions.specs.declared.kinds.Pair.TheVariants.{Both}
 use Rattle.definitions.specs.Definition1.{Rule, Formula, yea, letter, empty, two}
 use Rattle.rules.specs.Weight.{weight_of}
@@ -77,14 +77,6 @@ any_set = rw three at (star_finals 0 2 (letter yea) (letter_set yea))
 
 -- ---- the pairs
 
--- a pair more
-pub pair_more : (set fa fb n q : ℕ) → pair_final_of fa fb n q ≡ true → set ≡ word q (pair_final_of fa fb n) → insert set q ≡ word (q + 1) (pair_final_of fa fb n)
-unfolding insert
-pair_more set fa fb n q e h = rw h (word_step q (pair_final_of fa fb n) e)
-
-pub pair_less : (set fa fb n q : ℕ) → pair_final_of fa fb n q ≡ false → set ≡ word q (pair_final_of fa fb n) → set ≡ word (q + 1) (pair_final_of fa fb n)
-pair_less set fa fb n q e h = h ∙ word_skip q (pair_final_of fa fb n) e
-
 pub pair_is : (a b n q : ℕ) → bit a (q / n) ≡ true → bit b (q % n) ≡ pair_final_of a b n q
 unfolding pair_final_of
 pair_is a b n q e = sym (rw e)
@@ -112,7 +104,7 @@ module _ (fa fb n w : ℕ) (a b : Rule) (en : n ≡ weight_of b) (ew : w ≡ wei
       (omega (arith, ew, mul_comm (weight_of b) (weight_of a), le-mul_of_pos_right (weight_of b) (weight_pos a)))
       u v inside outside
 
--- the loop has seen every pair
-pub both_done : (set fa fb n w q : ℕ) (a b : Rule) → n ≡ weight_of b → w ≡ weight_of a * weight_of b → w ≤ table_states → q ≡ w → FinalsAt fa 0 a → FinalsAt fb 0 b
-    → set ≡ word q (pair_final_of fa fb n) → FinalsAt set 0 (two Both a b)
-both_done set fa fb n w q a b en ew small eq u v e = rw (e, eq) (all_pairs fa fb n w a b en ew small u v)
+-- the set of all pairs of finals
+pub both_done : (set fa fb n w : ℕ) (a b : Rule) → set ≡ word w (pair_final_of fa fb n) → n ≡ weight_of b → w ≡ weight_of a * weight_of b → w ≤ table_states → FinalsAt fa 0 a → FinalsAt fb 0 b
+    → FinalsAt set 0 (two Both a b)
+both_done set fa fb n w a b e en ew small u v = rw e (all_pairs fa fb n w a b en ew small u v)

@@ -1,11 +1,15 @@
 -- Laws of `Put`.
 use mathlib.Core.Path.{◌≡◌, refl, ap, ap₂, ◌∙◌}
 use mathlib.Core.List.{List}
-use Prim.Native.Nat.{ℕ, ◌+◌, ◌*◌, ◌<◌, ◌≤◌}
+use mathlib.Core.Logic.{◌⊎◌, inl, inr}
+use borrow.Rule.Slice.PartMut.{put_mid}
+use Rattle.std.proofs.lemmas.List.{length-take-le, get_or-take, get_or-drop, get_or_append_left, get_or-append_right}
+use Rattle.bits.proofs.Laws.{lt_or_ge}
+use Prim.Native.Nat.{ℕ, ◌+◌, ◌-◌, ◌*◌, ◌<◌, ◌≤◌}
 use native.Mathlib.Omega.{arith}
 use native.Mathlib.Nat.{lt_of_not-le}
 use native.Mathlib.Decide.{dec_le, dec_lt}
-use lib.ListN.{get_or, length, set}
+use lib.ListN.{get_or, length, set, take, drop}
 use lib.Seq.{get_or-set_same, get_or-set_other}
 use Rattle.automata.specs.Table.{table_states, cell}
 use Rattle.automata.specs.inner.Cells.{Put, In}
@@ -26,6 +30,37 @@ put_set t r s v l fits = record {
   new = λ p q i. let e : table_states * p + q ≡ table_states * r + s = omega arith in ap (λ (k : ℕ). get_or (set t (table_states * r + s) v) k 0) e ∙ get_or-set_same t (table_states * r + s) v 0 fits;
   old = λ p q m n. get_or-set_other t (table_states * r + s) (table_states * p + q) v 0 (λ e. n (omega arith));
 }
+
+-- a part of a row, written at once
+module _ (t ys : List ℕ) (r s n k : ℕ) (room : s + n ≤ table_states) (len : length ys ≡ n) (all : k ≡ n) (fits : table_states * r + s + n ≤ length t) where
+  abbrev cut : ℕ
+  cut = table_states * r + s
+
+  before : length (take cut t) ≡ cut
+  before = length-take-le cut t (omega arith)
+
+  slice_old : (j : ℕ) → (j < cut) ⊎ (cut ≤ j) → (cut ≤ j → cut + n ≤ j) → get_or (put_mid cut k t ys) j 0 ≡ get_or t j 0
+  slice_old j (inl l) past = get_or_append_left (take cut t) _ 0 j (omega (arith, before)) ∙ get_or-take cut t j 0 l
+  slice_old j (inr g) past =
+      let h = past g in
+      let e : cut + (k + (j - cut - n)) ≡ j = omega arith in
+      get_or-append_right _ _ cut j 0 before g ∙ get_or-append_right ys _ n (j - cut) 0 len (omega arith) ∙ get_or-drop k (drop cut t) (j - cut - n) 0 ∙ get_or-drop cut t (k + (j - cut - n)) 0 ∙ ap (λ (x : ℕ). get_or t x 0) e
+
+  slice_new : (p q : ℕ) → In r (r + 1) s (s + n) p q → cell (put_mid cut k t ys) p q ≡ get_or ys (q - s) 0
+  slice_new p q i =
+      let e : table_states * p + q - cut ≡ q - s = omega arith in
+      get_or-append_right _ _ cut (table_states * p + q) 0 before (omega arith) ∙ get_or_append_left ys _ 0 (table_states * p + q - cut) (omega (arith, len)) ∙ ap (λ (x : ℕ). get_or ys x 0) e
+
+  past : (p q : ℕ) → q < table_states → (In r (r + 1) s (s + n) p q → ⊥) → cut ≤ table_states * p + q → (table_states * p + q < cut + n) ⊎ (cut + n ≤ table_states * p + q) → cut + n ≤ table_states * p + q
+  past p q l o g (inl h) = absurd (o (omega arith))
+  past p q l o g (inr h) = h
+
+  pub put_slice : Put t (put_mid cut k t ys) r (r + 1) s (s + n) (λ p q. get_or ys (q - s) 0)
+  put_slice = record {
+    new = slice_new;
+    old = λ p q l o. slice_old (table_states * p + q) (lt_or_ge (table_states * p + q) cut)
+        (λ g. past p q l o g (lt_or_ge (table_states * p + q) (cut + n)));
+  }
 
 -- nothing yet
 pub put_none : (t : List ℕ) (a b c d : ℕ) (g : ℕ → ℕ → ℕ) → ((p q : ℕ) → In a b c d p q → ⊥) → Put t t a b c d g

@@ -2,14 +2,16 @@
 use Prim.Native.Nat.{ℕ, zero, suc, ◌+◌, ◌*◌, ◌<◌, ◌≤◌}
 use native.Mathlib.Omega.{arith}
 use native.Mathlib.Nat.{le-mul_of_pos_right, mul_comm, suc-mul}
-use mathlib.Core.Path.{◌≡◌, refl, ap, subst, ◌∙◌}
+use mathlib.Core.Path.{◌≡◌, refl, sym, ap, subst, ◌∙◌}
 use mathlib.Core.List.{List}
-use lib.ListN.{get_or}
+use lib.ListN.{get_or, length}
 use Rattle.definitions.specs.declared.kinds.Pair.{Pair}
 use Rattle.definitions.specs.declared.kinds.Pair.TheVariants.{Then, Overlap, Either, Within, Both}
 use Rattle.definitions.specs.declared.kinds.Repeat.{Repeat}
 use Rattle.definitions.specs.declared.kinds.RuleKind.TheVariants.{Letter, Empty, Two, Again, Counted, Occurs}
 use Rattle.definitions.specs.declared.kinds.Kind.TheVariants.{OfRule}
+use Rattle.definitions.specs.declared.kinds.Kind.{Kind}
+use Rattle.definitions.specs.declared.kinds.RuleKind.{RuleKind}
 use Rattle.definitions.specs.Definition1.{Rule, Formula, two, again, counted, occurs}
 use Rattle.definitions.specs.Kinds.{kind_of}
 use Rattle.definitions.specs.declared.counts.Counts.{Counts}
@@ -18,7 +20,7 @@ use Rattle.rules.specs.Places.{GoodRule, FormulaEnds, RuleEnds}
 use Rattle.definitions.specs.Encoding.{CountsAs}
 use Rattle.rules.specs.Weight.{weight_of, row_weight, pair_weight, weight_limit}
 use Rattle.rules.proofs.Scan.{rule_ends}
-use Rattle.rules.proofs.Walks.{counts_told, told_counts}
+use Rattle.rules.proofs.Walks.{rule_here, counts_told, told_counts}
 use Rattle.rules.proofs.PlacesOnce.{rule_of_lem}
 use Rattle.automata.specs.declared.shape.Shape.{Shape}
 use Rattle.automata.specs.inner.Shapes.{Fits, ShapeOf, ShapedAs}
@@ -26,6 +28,10 @@ use Rattle.automata.specs.inner.Shapes.{RowRoom}
 use Rattle.rules.proofs.Weighing.{weight_pos}
 use Rattle.automata.proofs.FinalSets.{empty_set, letter_set}
 use Rattle.automata.proofs.RowEnds.{none_set}
+
+-- the kind that a walk reads off the byte at its place
+pub kind_is : (b : ℕ) {k : Kind} {r q : RuleKind} → k ≡ kind_of b → k ≡ OfRule r → r ≡ q → kind_of b ≡ OfRule q
+kind_is b h e f = sym h ∙ e ∙ ap OfRule f
 
 -- an operand weighs no more than the whole
 pub parts : (p : Pair) (m n : ℕ) → 1 ≤ m → 1 ≤ n → (m ≤ pair_weight p m n) × (n ≤ pair_weight p m n)
@@ -43,6 +49,9 @@ row_part (suc j) m n = (refl, omega (arith, suc-mul j m))
 module _ (s : List ℕ) (at base : ℕ) (g : Fits s at base) where
   pub stands_good : GoodRule s at
   stands_good = (g.rule, g.past, g.stands)
+
+  pub stands_here : at < length s
+  stands_here = rule_here s at stands_good
 
   pub fits_again : (p : Repeat) → kind_of (get_or s at 0) ≡ OfRule (Again p) → Fits s (at + 1) base
   fits_again p q =

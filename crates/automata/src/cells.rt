@@ -1,4 +1,4 @@
-// The label from one state to another: the only place that knows where it stands in the slice.
+// The label from one state to another: the slice has a row of labels for each state, one row behind the other.
 ghost use Rattle.std.specs.Prelude.{◌≡◌, ◌+◌, ◌*◌, ◌<◌, length};
 ghost use Rattle.automata.specs.Table.{table_states, cell};
 ghost use Rattle.automata.specs.inner.Cells.{Put};

@@ -1,12 +1,13 @@
 // Sets of final states: an operator's from its operands'. a's states stand first, m of them; b has n.
 ghost use Rattle.std.specs.Prelude.{◌≡◌, ◌+◌, ◌*◌, ◌/◌, ◌%◌, ◌<◌, ◌≤◌};
-ghost use Rattle.bits.specs.Word.{word};
 ghost use Rattle.definitions.specs.Definition1.{Rule, two};
 ghost use Rattle.definitions.specs.declared.kinds.Pair.TheVariants.{Then, Either, Within, Both};
 ghost use Rattle.rules.specs.Weight.{weight_of};
 ghost use Rattle.automata.specs.inner.Block.{FinalsAt};
 ghost use Rattle.automata.specs.inner.Sets.{Raised, pair_final_of};
 ghost use Rattle.automata.specs.Table.{table_states};
+
+use bits::those::those;
 
 // Both states of `true[*]` are final.
 const ANY_FINALS: u64 = 3;
@@ -38,10 +39,7 @@ pub fn either_finals(a: u64, b: u64, m: usize) -> u64
 {
     let first = raise(a, 1);
     let second = raise(b, 1 + m);
-    if bits::has(first, 1) {
-        return bits::with(first | second, 0);
-    }
-    if bits::has(second, 1 + m) {
+    if bits::has(first, 1) || bits::has(second, 1 + m) {
         return bits::with(first | second, 0);
     }
     first | second
@@ -52,21 +50,7 @@ fn pair_final(a: u64, b: u64, n: usize, q: usize) -> bool
     requires { (0 < n) × (q < table_states) }
     ensures { result ≡ pair_final_of a b n q }
 {
-    if bits::has(a, q / n) {
-        return bits::has(b, q % n);
-    }
-    false
-}
-
-// The set of the pairs below q, with q too if both of its states are final.
-fn add_pair(set: u64, a: u64, b: u64, n: usize, q: usize) -> u64
-    requires { (0 < n) × (q < table_states) }
-    ensures { set ≡ word q (pair_final_of a b n) → result ≡ word (q + 1) (pair_final_of a b n) }
-{
-    if pair_final(a, b, n, q) {
-        return bits::with(set, q);
-    }
-    set
+    bits::has(a, q / n) && bits::has(b, q % n)
 }
 
 // `&&`: the pairs of finals. w is m * n.
@@ -74,13 +58,7 @@ pub fn both_finals(a: u64, b: u64, n: usize, w: usize) -> u64
     requires { (0 < n) × (w ≤ table_states) }
     ensures { (x y : Rule) → n ≡ weight_of y → w ≡ weight_of x * weight_of y → FinalsAt a 0 x → FinalsAt b 0 y → FinalsAt result 0 (two Both x y) }
 {
-    let mut set: u64 = 0;
-    let mut q = 0;
-    while q < w {
-        set = add_pair(set, a, b, n, q);
-        q += 1;
-    }
-    set
+    those(w, |q| pair_final(a, b, n, q))
 }
 
 // `&`, which is {a && {b;true[*]}} | {{a;true[*]} && b}.

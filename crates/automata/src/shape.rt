@@ -1,5 +1,6 @@
 // The shape of a rule: all that its operator needs to know of it besides its labels.
-ghost use Rattle.std.specs.Prelude.{ℕ, ◌<◌, ◌≤◌};
+ghost use Rattle.std.specs.Prelude.{ℕ, ◌≡◌, ◌<◌, ◌≤◌};
+ghost use Rattle.bits.specs.Word.{insert};
 ghost use Rattle.definitions.specs.Definition1.{Rule, Formula, two, again, counted, occurs};
 ghost use Rattle.definitions.specs.Encoding.{CountsFit};
 ghost use Rattle.rules.specs.Weight.{pair_weight, weight_limit};
@@ -17,11 +18,23 @@ const EMPTY_FINALS: u64 = 1;
 pub const LETTER_FINALS: u64 = 2;
 
 // Where a rule ends in the bytes, how many states its table has, and which of them are final.
-#[derive(Clone, Copy)]
+#[derive(Clone, Copy, Debug, PartialEq, Eq)]
 pub struct Shape {
     pub end: usize,
     pub weight: usize,
     pub finals: u64,
+}
+
+impl Shape {
+    // The same with the first state final too.
+    fn with_first_final(self) -> Shape
+        ensures { (result.end ≡ self.end) × (result.weight ≡ self.weight) × (result.finals ≡ insert self.finals 0) }
+    {
+        Shape {
+            finals: bits::with(self.finals, 0),
+            ..self
+        }
+    }
 }
 
 // The shape of a repetition of a.
@@ -30,11 +43,7 @@ pub fn again_shape(p: Repeat, a: Shape) -> Shape
 {
     match p {
         Repeat::Plus => a,
-        Repeat::Star => Shape {
-            end: a.end,
-            weight: a.weight,
-            finals: bits::with(a.finals, 0),
-        },
+        Repeat::Star => a.with_first_final(),
     }
 }
 
@@ -45,32 +54,20 @@ pub fn pair_shape(p: Pair, a: Shape, b: Shape) -> Shape
 {
     let m = a.weight;
     let n = b.weight;
-    match p {
-        Pair::Then => Shape {
-            end: b.end,
-            weight: m + n,
-            finals: then_finals(a.finals, b.finals, m),
-        },
-        Pair::Overlap => Shape {
-            end: b.end,
-            weight: m + n,
-            finals: raise(b.finals, m),
-        },
-        Pair::Either => Shape {
-            end: b.end,
-            weight: 1 + m + n,
-            finals: either_finals(a.finals, b.finals, m),
-        },
-        Pair::Within => Shape {
-            end: b.end,
-            weight: 2 * (m * n) + 2 * m + 2 * n + 1,
-            finals: within_finals(a.finals, b.finals, m, n),
-        },
-        Pair::Both => Shape {
-            end: b.end,
-            weight: m * n,
-            finals: both_finals(a.finals, b.finals, n, m * n),
-        },
+    let (weight, finals) = match p {
+        Pair::Then => (m + n, then_finals(a.finals, b.finals, m)),
+        Pair::Overlap => (m + n, raise(b.finals, m)),
+        Pair::Either => (1 + m + n, either_finals(a.finals, b.finals, m)),
+        Pair::Within => (
+            2 * (m * n) + 2 * m + 2 * n + 1,
+            within_finals(a.finals, b.finals, m, n),
+        ),
+        Pair::Both => (m * n, both_finals(a.finals, b.finals, n, m * n)),
+    };
+    Shape {
+        end: b.end,
+        weight,
+        finals,
     }
 }
 
@@ -79,11 +76,7 @@ fn maybe(low: usize, a: Shape) -> Shape
     ensures { MaybeShape low a result }
 {
     if low == 0 {
-        return Shape {
-            end: a.end,
-            weight: a.weight,
-            finals: bits::with(a.finals, 0),
-        };
+        return a.with_first_final();
     }
     a
 }
@@ -120,12 +113,7 @@ pub fn shape_at(rule: &[u8], at: usize) -> Shape
     ensures { ShapedAs rule.now at result }
 {
     match kind_of(rule[at]) {
-        Kind::Unknown => Shape {
-            end: at,
-            weight: 0,
-            finals: 0,
-        },
-        Kind::OfFormula(_) => Shape {
+        Kind::Unknown | Kind::OfFormula(_) => Shape {
             end: at,
             weight: 0,
             finals: 0,

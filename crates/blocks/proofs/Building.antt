@@ -4,6 +4,7 @@ use native.Mathlib.Omega.{arith}
 use mathlib.Core.Path.{◌≡◌, refl, sym, subst}
 use mathlib.Core.List.{List}
 use lib.ListN.{length, get_or}
+use Rattle.std.specs.Prelude.{Option, Some, None}
 use Rattle.definitions.specs.declared.kinds.Pair.{Pair}
 use Rattle.definitions.specs.declared.kinds.Repeat.{Repeat}
 use Rattle.definitions.specs.declared.kinds.RuleKind.TheVariants.{Letter, Empty, Two, Again, Counted, Occurs}
@@ -21,8 +22,6 @@ use Rattle.rules.proofs.PlacesOnce.{rule_of_lem, rule_once}
 use Rattle.rules.proofs.Walks.{told_counts}
 use Rattle.rules.proofs.Weighing.{weight_pos}
 use Rattle.automata.specs.declared.shape.Shape.{Shape}
-use Rattle.blocks.specs.declared.fill.Place.{Place}
-use Rattle.blocks.specs.declared.fill.Place.TheVariants.{Nowhere, From}
 use Rattle.automata.specs.Table.{table_states, table_entries}
 use Rattle.automata.specs.inner.Cells.{Put, Clean}
 use Rattle.automata.specs.inner.Block.{Built, Beside}
@@ -40,10 +39,10 @@ pub ready_up : (t : List ℕ) (base mid : ℕ) → Ready t base → base ≤ mid
 ready_up t base mid r l = record { long = r.long; clean = record { none = λ p q h₁ h₂ h₃ h₄. r.clean.none p q (omega arith) h₂ (omega arith) h₄ } }
 
 -- the place that an operator has for its operands
-placed_from : (p : Pair) (base m n lo : ℕ) → Placed p base m n (From lo) → (lo ≡ operands_from p base) × (base ≤ lo) × (lo + (m + n) ≤ base + pair_weight p m n)
+placed_from : (p : Pair) (base m n lo : ℕ) → Placed p base m n (Some lo) → (lo ≡ operands_from p base) × (base ≤ lo) × (lo + (m + n) ≤ base + pair_weight p m n)
 placed_from p base m n lo (from l e b h) = (e, b, h)
 
-placed_nowhere : (p : Pair) (base m n : ℕ) → Placed p base m n Nowhere → (t : List ℕ) (x y : Rule) → Clean t base → m ≡ weight_of x → n ≡ weight_of y → Built t t base (two p x y)
+placed_nowhere : (p : Pair) (base m n : ℕ) → Placed p base m n None → (t : List ℕ) (x y : Rule) → Clean t base → m ≡ weight_of x → n ≡ weight_of y → Built t t base (two p x y)
 placed_nowhere p base m n (nowhere h) = h
 
 -- ---- a rule by its kind
@@ -161,8 +160,8 @@ pub record LaidAt (s : List ℕ) (at base : ℕ) (p : Pair) (lo : ℕ) : Type 0 
   pub behind : base ≤ lo
   pub inside : lo + (weight_of first + weight_of second) ≤ base + pair_weight p (weight_of first) (weight_of second)
 
-module _ (s : List ℕ) (at base : ℕ) (g : Fits s at base) (p : Pair) (q : kind_of (get_or s at 0) ≡ OfRule (Two p)) {r : Place} (v : PlacedAt s at p base r) where
-  pub laid_at : {lo : ℕ} → r ≡ From lo → LaidAt s at base p lo
+module _ (s : List ℕ) (at base : ℕ) (g : Fits s at base) (p : Pair) (q : kind_of (get_or s at 0) ≡ OfRule (Two p)) {r : Option ℕ} (v : PlacedAt s at p base r) where
+  pub laid_at : {lo : ℕ} → r ≡ Some lo → LaidAt s at base p lo
   laid_at {lo} e =
       let i = rule_of_lem s (OfRule (Two p)) g.stands q in
       let z = placed_from p base (weight_of i.0) (weight_of i.1) lo (rw e at (v.placed i.0 i.1 i.2 g.past i.4 i.5 (rw i.3 at g.room))) in
@@ -181,7 +180,7 @@ module _ (s : List ℕ) (at base : ℕ) (g : Fits s at base) (p : Pair) (q : kin
       }
 
   -- an operator that wants its operands nowhere has no label
-  pub nowhere_step : r ≡ Nowhere → (t : List ℕ) → Ready t base → BuiltAt s at t t base
+  pub nowhere_step : r ≡ None → (t : List ℕ) → Ready t base → BuiltAt s at t t base
   nowhere_step e t y = record {
     built = λ x z d.
         let i = rule_of_lem s (OfRule (Two p)) d q in
@@ -195,9 +194,6 @@ module _ (s : List ℕ) (at base : ℕ) (g : Fits s at base) (p : Pair) (q : kin
 module _ {s : List ℕ} {at base : ℕ} {p : Pair} {lo : ℕ} (w : LaidAt s at base p lo) where
   room_all : lo + (weight_of w.first + weight_of w.second) ≤ table_states
   room_all = let l : base + pair_weight p (weight_of w.first) (weight_of w.second) ≤ weight_limit = rw w.whole at w.fits.room in omega (arith, w.inside)
-
-  pub lo_small : lo < table_states
-  lo_small = let l = room_all in let h = weight_pos w.first in omega arith
 
   pub fits_lo : Fits s (at + 1) lo
   fits_lo = record { rule = w.first; past = w.mid; stands = w.first_stands; room = let l = room_all in omega arith }

@@ -70,9 +70,6 @@ one_put t t' fs src f r lo hi x on is y =
 pub one_keep : (t : List ℕ) (fs src f r lo hi : ℕ) → bit fs f ≡ false → Put t t r (r + 1) lo hi (overlapped_by t fs src f)
 one_keep t fs src f r lo hi off = put_keep t r (r + 1) lo hi (overlapped_by t fs src f) (λ p q i. sym (one_plain t fs src f p q off))
 
-pub overlap_done : (t t' : List ℕ) (fs a b hi f r : ℕ) → f ≡ b → Put t t' r (r + 1) b hi (overlapped t fs a b (f - a)) → Put t t' r (r + 1) b hi (overlapped t fs a b (b - a))
-overlap_done t t' fs a b hi f r e x = put_as x refl refl refl refl (λ p q i. ap (λ (k : ℕ). overlapped t fs a b (k - a) p q) e)
-
 chosen_low : (t : List ℕ) (base b p q : ℕ) → q < b → chosen t base b p q ≡ bit_or (cell t p q) (cell t (base + 1) q)
 unfolding chosen
 chosen_low t base b p q l = rw (lt-ltb q b l)

@@ -6,11 +6,11 @@ use native.Mathlib.Decide.{dec_lt}
 use mathlib.Core.Path.{◌≡◌, refl, sym, ap, ◌∙◌}
 use mathlib.Core.Logic.{◌⊎◌, inl, inr, ◌↔◌}
 use mathlib.Core.List.{List}
+use Rattle.std.specs.Prelude.{Some, None}
 use Rattle.definitions.specs.declared.kinds.Pair.TheVariants.{Both}
 use Rattle.definitions.specs.Definition1.{Rule, two}
 use Rattle.rules.specs.Weight.{weight_of}
 use Rattle.automata.specs.declared.shape.Shape.{Shape}
-use Rattle.blocks.specs.declared.fill.Place.TheVariants.{Nowhere, From}
 use Rattle.automata.specs.Table.{table_states, cell}
 use Rattle.automata.specs.Build.{auto, BothStep}
 use Rattle.automata.specs.inner.Cells.{Put, Clean, moved, paired}
@@ -99,14 +99,14 @@ twice_sum (suc (suc m)) n h k = omega (arith, suc-mul (suc m) n, suc-mul m n, mu
     mul_two m n k = rw (mul_comm m 2, mul_comm m n) (mul-le-mul_right m k)
 
 -- where `&&` wants its operands
-pub none_placed : (base m n : ℕ) → (m < 2) ⊎ (n < 2) → 0 < m → 0 < n → base + m * n ≤ table_states → Placed Both base m n Nowhere
+pub none_placed : (base m n : ℕ) → (m < 2) ⊎ (n < 2) → 0 < m → 0 < n → base + m * n ≤ table_states → Placed Both base m n None
 none_placed base m n few h k room = nowhere (λ t x y clean em en. both_single x y (go x y few em en) t base clean (rw (em, en) at room))
   where
     go : (x y : Rule) → (m < 2) ⊎ (n < 2) → m ≡ weight_of x → n ≡ weight_of y → (weight_of x ≡ 1) ⊎ (weight_of y ≡ 1)
     go x y (inl l) e d = inl (omega arith)
     go x y (inr l) e d = inr (omega arith)
 
-pub both_placed : (base m n : ℕ) → 2 ≤ m → 2 ≤ n → Placed Both base m n (From base)
+pub both_placed : (base m n : ℕ) → 2 ≤ m → 2 ≤ n → Placed Both base m n (Some base)
 both_placed base m n h k = from base refl (omega arith) (omega (arith, twice_sum m n h k))
 
 -- over operands of the shapes a and b, by way of a copy

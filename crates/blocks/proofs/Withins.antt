@@ -1,7 +1,7 @@
 -- `&`: both sides are pairs over one copy of {a;true[*]} and {b;true[*]}. Assumes nothing.
-use Prim.Native.Nat.{ℕ, zero, suc, ◌+◌, ◌*◌, ◌<◌, ◌≤◌}
+use Prim.Native.Nat.{ℕ, ◌+◌, ◌*◌, ◌<◌, ◌≤◌}
 use native.Mathlib.Omega.{arith}
-use native.Mathlib.Nat.{le-mul_of_pos_right, mul_comm, suc-mul}
+use native.Mathlib.Nat.{le-mul_of_pos_right, mul_comm}
 use mathlib.Core.Path.{◌≡◌, refl, sym}
 use mathlib.Core.Logic.{⊎_elim}
 use mathlib.Core.List.{List}
@@ -90,13 +90,6 @@ module _ (t₀ t t₁ t₂ t₃ u₀ u₁ u₂ : List ℕ) (base right hi : ℕ)
       (beside t₀ t₁ t₂ (base + 1) (two Both x (two Then y any_rule)) (two Both (two Then x any_rule) y) (omega arith) left (rw er at right_side)) put)
 
 -- over operands of the shapes a and b
-pub within_small : (a b : Shape) (t : List ℕ) (base : ℕ) → Room Within a b t base → (0 < a.weight) × (0 < b.weight) × (a.weight + b.weight ≤ 16)
-within_small a b t base room = (room.first_some, room.second_some, omega (arith, room.square, sum_le a.weight b.weight room.first_some room.second_some))
-  where
-    sum_le : (m n : ℕ) → 0 < m → 0 < n → m + n ≤ m * n + 1
-    sum_le zero n h k = absurd (omega arith)
-    sum_le (suc m) n h k = omega (arith, suc-mul m n, le-mul_of_pos_right m k)
-
 pub zeros : (n : ℕ) → Clean (replicate n 0) 0
 zeros n = record { none = λ p q h₁ h₂ h₃ h₄. ⊎_elim (λ l. get_or-replicate n (table_states * p + q) 0 0 l) (λ l. get_or-eq_default (replicate n 0) 0 (omega (arith, length-replicate {A = ℕ} n 0))) (lt_or_ge (table_states * p + q) n) }
 

@@ -10,6 +10,7 @@ ghost use Rattle.automata.specs.Table.{table_states};
 ghost use Rattle.definitions.specs.Definition2.{letter_count};
 
 use crate::link::link;
+use crate::span::Span;
 use automata::cells::put;
 use formulas::LETTER_COUNT;
 
@@ -30,5 +31,9 @@ pub fn pad(t: &mut [u64], base: usize, n: usize, finals: u64)
 {
     let mid = base + n;
     any(t, mid);
-    link(t, base, mid, mid, mid + 2, finals);
+    let behind = Span {
+        first: mid,
+        end: mid + 2,
+    };
+    link(t, base, mid, behind, finals);
 }

@@ -22,36 +22,23 @@ use definitions::counts::counts_at;
 use definitions::kinds::{Kind, Pair, RuleKind, kind_of};
 use formulas::label_and_end;
 
-// Where an operator wants its operands' blocks, one behind the other.
-#[derive(Drop)]
-pub enum Place {
-    // Nowhere: it has no label.
-    Nowhere,
-    From(usize),
-}
-
-// `|` and `&` have a state of their own before the operands. A table of one state has no label, and neither has its product; otherwise the operands of `&&`
+// Where an operator wants its operands' blocks, one behind the other: nowhere, if it has no label. `|` and `&` have a state of their own before the operands. A table of one state has no label, and neither has its product; otherwise the operands of `&&`
 // fit side by side into the product's square. For `&&` alone the operands are weighed before they are built.
-fn place_at(rule: &[u8], at: usize, p: Pair, base: usize) -> Place
+fn place_at(rule: &[u8], at: usize, p: Pair, base: usize) -> Option<usize>
     requires { Fits rule.now at base × (kind_of (get_or rule.now at 0) ≡ OfRule (Two p)) }
     ensures { PlacedAt rule.now at p base result }
 {
     match p {
-        Pair::Then => Place::From(base),
-        Pair::Overlap => Place::From(base),
-        Pair::Either => Place::From(base + 1),
-        Pair::Within => Place::From(base + 1),
+        Pair::Then | Pair::Overlap => Some(base),
+        Pair::Either | Pair::Within => Some(base + 1),
         Pair::Both => {
             let a = shape_at(rule, at + 1);
             let second = a.end;
             let b = shape_at(rule, second);
-            if a.weight < 2 {
-                return Place::Nowhere;
+            if a.weight < 2 || b.weight < 2 {
+                return None;
             }
-            if b.weight < 2 {
-                return Place::Nowhere;
-            }
-            Place::From(base)
+            Some(base)
         }
     }
 }
@@ -78,8 +65,7 @@ pub fn build_at(rule: &[u8], at: usize, t: &mut [u64], base: usize) -> Shape
     ensures shaped_as { ShapedAs rule.now at result }
 {
     match kind_of(rule[at]) {
-        Kind::Unknown => shape_at(rule, at),
-        Kind::OfFormula(_) => shape_at(rule, at),
+        Kind::Unknown | Kind::OfFormula(_) => shape_at(rule, at),
         Kind::OfRule(k) => match k {
             RuleKind::Letter => {
                 let a = label_and_end(rule, at + 1);
@@ -97,7 +83,7 @@ pub fn build_at(rule: &[u8], at: usize, t: &mut [u64], base: usize) -> Shape
                 again_shape(p, a)
             }
             RuleKind::Two(p) => {
-                let Place::From(lo) = place_at(rule, at, p, base) else {
+                let Some(lo) = place_at(rule, at, p, base) else {
                     return shape_at(rule, at);
                 };
                 let a = build_at(rule, at + 1, t, lo);

@@ -1,6 +1,8 @@
 // Fills a table in place: the labels of each operator over the blocks of its operands.
 #![tactic(auto)]
 
+pub mod span; // where a block stands
+pub mod pairs; // where the pairs of `&&` stand
 pub mod clear; // no label
 pub mod link; // `;` and the repetitions
 pub mod overlap; // `:`

@@ -6,42 +6,39 @@ ghost use Rattle.definitions.specs.declared.kinds.Pair.TheVariants.{Then};
 ghost use Rattle.automata.specs.inner.Cells.{Put, linked};
 ghost use Rattle.blocks.specs.inner.Building.{Room, Joins, Repeats};
 
+use crate::span::Span;
 use automata::cells::{get, put};
 use automata::finals::raise;
 use automata::shape::Shape;
 
-// Row p also gets what leaves src, the first state of a block that ends at hi.
-pub fn unite_row(t: &mut [u64], p: usize, src: usize, hi: usize)
-    requires { (table_states * (p + 1) ≤ length t.old) × (table_states * hi ≤ length t.old) × (p < table_states) × (src < hi) × (hi ≤ table_states) }
-    ensures { Put t.old t.new p (p + 1) src hi (λ r s. bit_or (cell t.old r s) (cell t.old src s)) }
+// Row p also gets what leaves the first state of b.
+pub fn unite_row(t: &mut [u64], p: usize, b: Span)
+    requires { (table_states * (p + 1) ≤ length t.old) × (table_states * b.end ≤ length t.old) × (p < table_states) }
+    ensures { Put t.old t.new p (p + 1) b.first b.end (λ r s. bit_or (cell t.old r s) (cell t.old b.first s)) }
 {
-    let mut q = src;
-    while q < hi {
-        let v = get(t, p, q) | get(t, src, q);
+    for q in b.first..b.end {
+        let v = get(t, p, q) | get(t, b.first, q);
         put(t, p, q, v);
-        q += 1;
     }
 }
 
-// Row p also gets what leaves src, if p is final.
-fn link_row(t: &mut [u64], p: usize, src: usize, hi: usize, finals: u64)
-    requires { (table_states * (p + 1) ≤ length t.old) × (table_states * hi ≤ length t.old) × (p < table_states) × (src < hi) × (hi ≤ table_states) }
-    ensures { Put t.old t.new p (p + 1) src hi (linked t.old src finals) }
+// Row p also gets what leaves the first state of b, if p is final.
+fn link_row(t: &mut [u64], p: usize, b: Span, finals: u64)
+    requires { (table_states * (p + 1) ≤ length t.old) × (table_states * b.end ≤ length t.old) × (p < table_states) }
+    ensures { Put t.old t.new p (p + 1) b.first b.end (linked t.old b.first finals) }
 {
     if bits::has(finals, p) {
-        unite_row(t, p, src, hi);
+        unite_row(t, p, b);
     }
 }
 
-// Each final row of from to to also gets what leaves src, the first state of a block that ends at hi.
-pub fn link(t: &mut [u64], from: usize, to: usize, src: usize, hi: usize, finals: u64)
-    requires { (table_states * to ≤ length t.old) × (table_states * hi ≤ length t.old) × (from ≤ to) × (to ≤ table_states) × (src < hi) × (hi ≤ table_states) }
-    ensures { Put t.old t.new from to src hi (linked t.old src finals) }
+// Each final row of from to to also gets what leaves the first state of b.
+pub fn link(t: &mut [u64], from: usize, to: usize, b: Span, finals: u64)
+    requires { (table_states * to ≤ length t.old) × (table_states * b.end ≤ length t.old) × (from ≤ to) × (to ≤ table_states) }
+    ensures { Put t.old t.new from to b.first b.end (linked t.old b.first finals) }
 {
-    let mut p = from;
-    while p < to {
-        link_row(t, p, src, hi, finals);
-        p += 1;
+    for p in from..to {
+        link_row(t, p, b, finals);
     }
 }
 
@@ -51,9 +48,12 @@ pub fn then(t: &mut [u64], base: usize, a: Shape, b: Shape)
     ensures { Joins Then a b t.old t.new base }
 {
     let mid = base + a.weight;
-    let hi = mid + b.weight;
+    let second = Span {
+        first: mid,
+        end: mid + b.weight,
+    };
     let finals = raise(a.finals, base);
-    link(t, base, mid, mid, hi, finals);
+    link(t, base, mid, second, finals);
 }
 
 // `[*]` and `[+]`, which have the same labels: a's finals also get what leaves a. The first state has that already, and no row that is written is
@@ -62,7 +62,10 @@ pub fn again(t: &mut [u64], base: usize, a: Shape)
     requires { (table_entries ≤ length t.old) × (0 < a.weight) × (base + a.weight ≤ table_states) }
     ensures { Repeats a t.old t.new base }
 {
-    let hi = base + a.weight;
+    let own = Span {
+        first: base,
+        end: base + a.weight,
+    };
     let finals = raise(a.finals, base);
-    link(t, base + 1, hi, base, hi, finals);
+    link(t, base + 1, own.end, own, finals);
 }

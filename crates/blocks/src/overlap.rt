@@ -6,55 +6,50 @@ ghost use Rattle.definitions.specs.declared.kinds.Pair.TheVariants.{Overlap};
 ghost use Rattle.automata.specs.inner.Cells.{Put, overlapped_by, overlapped};
 ghost use Rattle.blocks.specs.inner.Building.{Room, Joins};
 
+use crate::span::Span;
 use automata::cells::{get, put};
 use automata::finals::raise;
 use automata::shape::Shape;
 
-// Row p also gets what the label x lets through of what leaves src, the first state of a block that ends at hi.
-fn unite_part(t: &mut [u64], p: usize, x: u64, src: usize, hi: usize)
-    requires { (table_entries ≤ length t.old) × (p < table_states) × (src < hi) × (hi ≤ table_states) }
-    ensures { Put t.old t.new p (p + 1) src hi (λ r s. bit_or (cell t.old r s) (bit_and x (cell t.old src s))) }
+// Row p also gets what the label x lets through of what leaves the first state of b.
+fn unite_part(t: &mut [u64], p: usize, x: u64, b: Span)
+    requires { (table_entries ≤ length t.old) × (p < table_states) }
+    ensures { Put t.old t.new p (p + 1) b.first b.end (λ r s. bit_or (cell t.old r s) (bit_and x (cell t.old b.first s))) }
 {
-    let mut q = src;
-    while q < hi {
-        let v = get(t, p, q) | x & get(t, src, q);
+    for q in b.first..b.end {
+        let v = get(t, p, q) | x & get(t, b.first, q);
         put(t, p, q, v);
-        q += 1;
     }
 }
 
 // Row p goes on in b by way of f, if f is final.
-fn overlap_by(t: &mut [u64], p: usize, f: usize, src: usize, hi: usize, finals: u64)
-    requires { (table_entries ≤ length t.old) × (p < table_states) × (f < table_states) × (src < hi) × (hi ≤ table_states) }
-    ensures { Put t.old t.new p (p + 1) src hi (overlapped_by t.old finals src f) }
+fn overlap_by(t: &mut [u64], p: usize, f: usize, b: Span, finals: u64)
+    requires { (table_entries ≤ length t.old) × (p < table_states) × (f < table_states) }
+    ensures { Put t.old t.new p (p + 1) b.first b.end (overlapped_by t.old finals b.first f) }
 {
     if bits::has(finals, f) {
         let x = get(t, p, f);
-        unite_part(t, p, x, src, hi);
+        unite_part(t, p, x, b);
     }
 }
 
-// Row p goes on in b by way of each final of a. a has the states a to b, and b those from b to hi.
-fn overlap_row(t: &mut [u64], p: usize, a: usize, b: usize, hi: usize, finals: u64)
-    requires { (table_entries ≤ length t.old) × (a ≤ p) × (p < b) × (b < hi) × (hi ≤ table_states) }
-    ensures { Put t.old t.new p (p + 1) b hi (overlapped t.old finals a b (b - a)) }
+// Row p goes on in b by way of each final of a, whose states stand from a up to b.
+fn overlap_row(t: &mut [u64], p: usize, a: usize, b: Span, finals: u64)
+    requires { (table_entries ≤ length t.old) × (a ≤ p) × (p < b.first) }
+    ensures { Put t.old t.new p (p + 1) b.first b.end (overlapped t.old finals a b.first (b.first - a)) }
 {
-    let mut f = a;
-    while f < b {
-        overlap_by(t, p, f, b, hi, finals);
-        f += 1;
+    for f in a..b.first {
+        overlap_by(t, p, f, b, finals);
     }
 }
 
 // Each row of a goes on in b by way of each final of a.
-fn overlap_rows(t: &mut [u64], a: usize, b: usize, hi: usize, finals: u64)
-    requires { (table_entries ≤ length t.old) × (a ≤ b) × (b < hi) × (hi ≤ table_states) }
-    ensures { Put t.old t.new a b b hi (overlapped t.old finals a b (b - a)) }
+fn overlap_rows(t: &mut [u64], a: usize, b: Span, finals: u64)
+    requires { (table_entries ≤ length t.old) × (a ≤ b.first) }
+    ensures { Put t.old t.new a b.first b.first b.end (overlapped t.old finals a b.first (b.first - a)) }
 {
-    let mut p = a;
-    while p < b {
-        overlap_row(t, p, a, b, hi, finals);
-        p += 1;
+    for p in a..b.first {
+        overlap_row(t, p, a, b, finals);
     }
 }
 
@@ -64,7 +59,10 @@ pub fn overlap(t: &mut [u64], base: usize, a: Shape, b: Shape)
     ensures { Joins Overlap a b t.old t.new base }
 {
     let mid = base + a.weight;
-    let hi = mid + b.weight;
+    let second = Span {
+        first: mid,
+        end: mid + b.weight,
+    };
     let finals = raise(a.finals, base);
-    overlap_rows(t, base, mid, hi, finals);
+    overlap_rows(t, base, second, finals);
 }

@@ -1,10 +1,11 @@
 // `&&` over two blocks: the pairs of their states, in the blocks' place.
-ghost use Rattle.std.specs.Prelude.{◌≡◌, ◌+◌, ◌*◌, ◌<◌, ◌≤◌, length};
+ghost use Rattle.std.specs.Prelude.{◌+◌, ◌*◌, ◌<◌, ◌≤◌, length};
 ghost use Rattle.definitions.specs.declared.kinds.Pair.TheVariants.{Both};
 ghost use Rattle.automata.specs.Table.{table_states, table_entries};
 ghost use Rattle.automata.specs.inner.Cells.{Put, moved, paired};
-ghost use Rattle.blocks.specs.inner.Building.{Room, Joins, PairsFit};
+ghost use Rattle.blocks.specs.inner.Building.{Room, Joins};
 
+use crate::pairs::Pairs;
 use automata::STATES;
 use automata::cells::{get, put};
 use automata::shape::Shape;
@@ -15,26 +16,14 @@ const COPIED_STATES: usize = 34;
 
 pub const COPY_ENTRIES: usize = STATES * COPIED_STATES;
 
-// The pairs that stand at base in the table, of m states and n. The first operand stands in a copy at 0, and the second at `second`.
-#[derive(Clone, Copy)]
-pub struct Pairs {
-    pub base: usize,
-    pub m: usize,
-    pub n: usize,
-    pub second: usize,
-}
-
 // Row i of the block of n states at from in t becomes row i of the block at to in copy.
 fn copy_row(copy: &mut [u64], t: &[u64], from: usize, to: usize, n: usize, i: usize)
     requires { (table_states * (to + n) ≤ length copy.old) × (table_states * (from + n) ≤ length t.now) × (to + n ≤ table_states) × (from + n ≤ table_states) × (i < n) }
     ensures { Put copy.old copy.new (to + i) (to + i + 1) to (to + n) (moved t.now from to) }
 {
-    let mut j = 0;
-    while j < n {
-        let v = get(t, from + i, from + j);
-        put(copy, to + i, to + j, v);
-        j += 1;
-    }
+    let at = STATES * (to + i) + to;
+    let old = STATES * (from + i) + from;
+    copy[at..at + n].copy_from_slice(&t[old..old + n]);
 }
 
 // The block of n states at from in t, as it stands at to in copy.
@@ -42,16 +31,14 @@ pub fn copy_block(copy: &mut [u64], t: &[u64], from: usize, to: usize, n: usize)
     requires { (table_states * (to + n) ≤ length copy.old) × (table_states * (from + n) ≤ length t.now) × (to + n ≤ table_states) × (from + n ≤ table_states) }
     ensures { Put copy.old copy.new to (to + n) to (to + n) (moved t.now from to) }
 {
-    let mut i = 0;
-    while i < n {
+    for i in 0..n {
         copy_row(copy, t, from, to, n, i);
-        i += 1;
     }
 }
 
 // Row p of the pairs whose first state is j: the label from p's first state to j, met with the row of its second.
 fn product_part(t: &mut [u64], copy: &[u64], s: Pairs, p: usize, j: usize)
-    requires { (table_entries ≤ length t.old) × PairsFit s (length copy.now) × (s.base ≤ p) × (p < s.base + s.m * s.n) × (j < s.m) }
+    requires { (table_entries ≤ length t.old) × (table_states * (s.second + s.n) ≤ length copy.now) × (s.base ≤ p) × (p < s.base + s.m * s.n) × (j < s.m) }
     ensures { Put t.old t.new p (p + 1) (s.base + j * s.n) (s.base + j * s.n + s.n) (paired copy.now s.base s.n s.second) }
 {
     let n = s.n;
@@ -60,37 +47,30 @@ fn product_part(t: &mut [u64], copy: &[u64], s: Pairs, p: usize, j: usize)
     let by = get(copy, i / n, j);
     let row = second + i % n;
     let lo = s.base + j * n;
-    let mut k: usize = 0;
-    while k < n {
+    for k in 0..n {
         let v = by & get(copy, row, second + k);
         put(t, p, lo + k, v);
-        k += 1;
     }
 }
 
 // Row p of the pairs.
 fn product_row(t: &mut [u64], copy: &[u64], s: Pairs, p: usize)
-    requires { (table_entries ≤ length t.old) × PairsFit s (length copy.now) × (s.base ≤ p) × (p < s.base + s.m * s.n) }
+    requires { (table_entries ≤ length t.old) × (table_states * (s.second + s.n) ≤ length copy.now) × (s.base ≤ p) × (p < s.base + s.m * s.n) }
     ensures { Put t.old t.new p (p + 1) s.base (s.base + s.m * s.n) (paired copy.now s.base s.n s.second) }
 {
-    let m = s.m;
-    let mut j: usize = 0;
-    while j < m {
+    for j in 0..s.m {
         product_part(t, copy, s, p, j);
-        j += 1;
     }
 }
 
 // All rows of the pairs.
 pub fn product(t: &mut [u64], copy: &[u64], s: Pairs)
-    requires { (table_entries ≤ length t.old) × PairsFit s (length copy.now) }
+    requires { (table_entries ≤ length t.old) × (table_states * (s.second + s.n) ≤ length copy.now) }
     ensures { Put t.old t.new s.base (s.base + s.m * s.n) s.base (s.base + s.m * s.n) (paired copy.now s.base s.n s.second) }
 {
     let hi = s.base + s.m * s.n;
-    let mut p = s.base;
-    while p < hi {
+    for p in s.base..hi {
         product_row(t, copy, s, p);
-        p += 1;
     }
 }
 

@@ -6,7 +6,7 @@ ghost use Rattle.blocks.specs.inner.Building.{RowOf};
 ghost use Rattle.automata.specs.inner.Shapes.{RowRoom};
 
 use crate::link::then;
-use automata::cells::{get, put};
+use automata::STATES;
 use automata::shape::{Shape, row_shape};
 use definitions::counts::{Counts, after_one};
 
@@ -16,12 +16,8 @@ fn double_row(t: &mut [u64], from: usize, n: usize, i: usize)
     ensures { Put t.old t.new (from + n + i) (from + n + i + 1) (from + n) (from + n + n) (moved t.old from (from + n)) }
 {
     let to = from + n;
-    let mut j = 0;
-    while j < n {
-        let v = get(t, from + i, from + j);
-        put(t, to + i, to + j, v);
-        j += 1;
-    }
+    let old = STATES * (from + i) + from;
+    t.copy_within(old..old + n, STATES * (to + i) + to);
 }
 
 // The block of n states at from stands once more behind itself.
@@ -29,10 +25,8 @@ fn double(t: &mut [u64], from: usize, n: usize)
     requires { (table_entries ≤ length t.old) × (from + n + n ≤ table_states) }
     ensures { Put t.old t.new (from + n) (from + n + n) (from + n) (from + n + n) (moved t.old from (from + n)) }
 {
-    let mut i = 0;
-    while i < n {
+    for i in 0..n {
         double_row(t, from, n, i);
-        i += 1;
     }
 }
 

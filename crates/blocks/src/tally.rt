@@ -5,6 +5,7 @@ ghost use Rattle.automata.specs.inner.Cells.{Put, tallied};
 ghost use Rattle.blocks.specs.inner.Building.{TallyOf};
 
 use crate::link::unite_row;
+use crate::span::Span;
 use automata::cells::put;
 
 // State p of those below hi: a letter that does not satisfy the formula keeps the count, one that does raises it, if there is a state for that.
@@ -23,10 +24,8 @@ fn tally_rows(t: &mut [u64], lo: usize, hi: usize, hit: u64, miss: u64)
     requires { (table_entries ≤ length t.old) × (lo ≤ hi) × (hi ≤ table_states) }
     ensures { Put t.old t.new lo hi lo hi (tallied t.old hit miss) }
 {
-    let mut p = lo;
-    while p < hi {
+    for p in lo..hi {
         tally_row(t, p, hi, hit, miss);
-        p += 1;
     }
 }
 
@@ -38,5 +37,5 @@ pub fn tally(t: &mut [u64], base: usize, high: usize, label: u64)
     let first = base + 1;
     let hi = first + high + 1;
     tally_rows(t, first, hi, label, !label);
-    unite_row(t, base, first, hi);
+    unite_row(t, base, Span { first, end: hi });
 }

@@ -10,7 +10,9 @@ ghost use Rattle.automata.specs.Table.{table_states};
 
 use crate::any::pad;
 use crate::choice::choice;
-use crate::product::{COPY_ENTRIES, Pairs, copy_block, product};
+use crate::pairs::Pairs;
+use crate::product::{COPY_ENTRIES, copy_block, product};
+use crate::span::Span;
 use automata::finals::raise;
 use automata::shape::Shape;
 
@@ -53,5 +55,9 @@ pub fn within(t: &mut [u64], base: usize, a: Shape, b: Shape)
     copy_padded(&mut copy, t, left + m, second, b);
     product(t, &copy, left_pairs);
     product(t, &copy, right_pairs);
-    choice(t, base, right, right + second * n);
+    let right_block = Span {
+        first: right,
+        end: right + second * n,
+    };
+    choice(t, base, right_block);
 }

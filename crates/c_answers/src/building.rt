@@ -3,7 +3,7 @@ ghost use Rattle.std.specs.Prelude.{◌≡◌};
 ghost use Rattle.tables.specs.Answer as tables;
 ghost use Rattle.c_answers.specs.Numbers.{built_numbers_of};
 
-use tables::TableAnswer;
+use tables::{Refusal, Tabled};
 
 // What building gives back: the weight, the set of the final states, and the propositions that the rule names.
 #[repr(C)]
@@ -17,18 +17,18 @@ pub struct GcBuilt {
 }
 
 // The numbers for each case of the answer.
-pub fn built_numbers(answer: TableAnswer) -> GcBuilt
+pub fn built_numbers(answer: Result<Tabled, Refusal>) -> GcBuilt
     ensures { result ≡ built_numbers_of (tables.told answer) }
 {
     match answer {
-        TableAnswer::Tabled { rule, finals } => GcBuilt {
+        Ok(Tabled { rule, finals }) => GcBuilt {
             refused: 0,
             place: 0,
             weight: rule.weight as u64,
             finals,
             uses: rule.uses,
         },
-        TableAnswer::Refused(x) => GcBuilt {
+        Err(x) => GcBuilt {
             refused: x.number(),
             place: x.place() as u64,
             weight: 0,

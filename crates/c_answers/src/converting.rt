@@ -3,7 +3,7 @@ ghost use Rattle.std.specs.Prelude.{◌≡◌};
 ghost use Rattle.letter_rows.specs.Answer as rows;
 ghost use Rattle.c_answers.specs.Numbers.{done_numbers_of};
 
-use letter_rows::ConvertAnswer;
+use letter_rows::Refusal;
 
 // What a call gives back that only says whether it was done.
 #[repr(C)]
@@ -14,15 +14,15 @@ pub struct GcDone {
 }
 
 // The numbers for each case of the answer.
-pub fn done_numbers(answer: ConvertAnswer) -> GcDone
+pub fn done_numbers(answer: Result<(), Refusal>) -> GcDone
     ensures { result ≡ done_numbers_of (rows.told answer) }
 {
     match answer {
-        ConvertAnswer::Converted => GcDone {
+        Ok(()) => GcDone {
             refused: 0,
             place: 0,
         },
-        ConvertAnswer::Refused(x) => GcDone {
+        Err(x) => GcDone {
             refused: x.number(),
             place: x.place() as u64,
         },

@@ -1,9 +1,9 @@
-// What a sequence comes to, and its numbers.
+// What a step or a sequence comes to, and its numbers.
 ghost use Rattle.std.specs.Prelude.{◌≡◌};
 ghost use Rattle.walkers.specs.Walks.{ending};
 ghost use Rattle.c_answers.specs.Numbers.{moved_numbers_of};
 
-use walkers::FollowAnswer;
+use walkers::Refusal;
 
 // What a sequence comes to: 1 where a final is in the set at its end.
 #[repr(C)]
@@ -15,16 +15,16 @@ pub struct GcMoved {
 }
 
 // The numbers for each case of the answer.
-pub fn moved_numbers(answer: FollowAnswer) -> GcMoved
+pub fn moved_numbers(answer: Result<bool, Refusal>) -> GcMoved
     ensures { result ≡ moved_numbers_of (ending answer) }
 {
     match answer {
-        FollowAnswer::Ended(matches) => GcMoved {
+        Ok(matches) => GcMoved {
             refused: 0,
             place: 0,
             matches: matches as u64,
         },
-        FollowAnswer::Refused(x) => GcMoved {
+        Err(x) => GcMoved {
             refused: x.number(),
             place: x.place() as u64,
             matches: 0,

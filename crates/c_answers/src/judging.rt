@@ -3,7 +3,7 @@ ghost use Rattle.std.specs.Prelude.{◌≡◌};
 ghost use Rattle.judge.specs.Verdict as judge;
 ghost use Rattle.c_answers.specs.Numbers.{judged_numbers_of};
 
-use judge::JudgeAnswer;
+use judge::{Judged, Refusal};
 
 // What judging gives back: `accepts` is 1 for yes and 0 for no; and the propositions that the rule names.
 #[repr(C)]
@@ -16,17 +16,17 @@ pub struct GcJudged {
 }
 
 // The numbers for each case of the answer.
-pub fn judged_numbers(answer: JudgeAnswer) -> GcJudged
+pub fn judged_numbers(answer: Result<Judged, Refusal>) -> GcJudged
     ensures { result ≡ judged_numbers_of (judge.told answer) }
 {
     match answer {
-        JudgeAnswer::Judged { accepts, rule } => GcJudged {
+        Ok(j) => GcJudged {
             refused: 0,
             place: 0,
-            accepts: accepts as u64,
-            uses: rule.uses,
+            accepts: j.accepts as u64,
+            uses: j.rule.uses,
         },
-        JudgeAnswer::Refused(x) => GcJudged {
+        Err(x) => GcJudged {
             refused: x.number(),
             place: x.place() as u64,
             accepts: 0,

@@ -3,7 +3,7 @@ ghost use Rattle.std.specs.Prelude.{◌≡◌};
 ghost use Rattle.lasting.specs.Answer as lasting;
 ghost use Rattle.c_answers.specs.Numbers.{lasting_numbers_of};
 
-use lasting::LastingAnswer;
+use lasting::LastingStates;
 
 // What is given back: how many states the model has, and the set of those from which an endless run leaves.
 #[repr(C)]
@@ -16,17 +16,17 @@ pub struct GcLasts {
 }
 
 // The numbers for each case of the answer.
-pub fn lasting_numbers(answer: LastingAnswer) -> GcLasts
+pub fn lasting_numbers(answer: Result<LastingStates, models::Refusal>) -> GcLasts
     ensures { result ≡ lasting_numbers_of (lasting.told answer) }
 {
     match answer {
-        LastingAnswer::Lasting { states, set } => GcLasts {
+        Ok(lasts) => GcLasts {
             refused: 0,
             place: 0,
-            states: states as u64,
-            lasting: set,
+            states: lasts.states as u64,
+            lasting: lasts.set,
         },
-        LastingAnswer::Refused(x) => GcLasts {
+        Err(x) => GcLasts {
             refused: x.number(),
             place: x.place() as u64,
             states: 0,

@@ -3,7 +3,7 @@ ghost use Rattle.std.specs.Prelude.{◌≡◌};
 ghost use Rattle.formula_models.specs.Answer as formula_answer;
 ghost use Rattle.c_answers.specs.Numbers.{written_numbers_of};
 
-use formula_models::{FormulasAnswer, MODEL_BYTES};
+use formula_models::{MODEL_BYTES, Refusal};
 
 // What is given back: how many bytes were written.
 #[repr(C)]
@@ -15,16 +15,16 @@ pub struct GcWritten {
 }
 
 // The numbers for each case of the answer.
-pub fn written_numbers(answer: FormulasAnswer) -> GcWritten
+pub fn written_numbers(answer: Result<(), Refusal>) -> GcWritten
     ensures { result ≡ written_numbers_of (formula_answer.told answer) }
 {
     match answer {
-        FormulasAnswer::Written => GcWritten {
+        Ok(()) => GcWritten {
             refused: 0,
             place: 0,
             length: MODEL_BYTES as u64,
         },
-        FormulasAnswer::Refused(x) => GcWritten {
+        Err(x) => GcWritten {
             refused: x.number(),
             place: x.place() as u64,
             length: 0,

@@ -2,10 +2,10 @@
 ghost use Rattle.std.specs.Prelude.{◌≡◌};
 ghost use Rattle.rules.specs.Answer as rules;
 ghost use Rattle.models.specs.Answer as models;
-ghost use Rattle.c_answers.specs.Numbers.{rule_numbers_of, state_numbers};
+ghost use Rattle.c_answers.specs.Numbers.{rule_numbers_of, model_numbers_of};
 
-use models::ModelAnswer;
-use rules::RuleAnswer;
+use models::ModelData;
+use rules::Known;
 
 // What reading a rule gives back: the weight, and the set of the propositions that it names, bit i for proposition i.
 #[repr(C)]
@@ -27,17 +27,17 @@ pub struct GcModel {
 }
 
 // The numbers for each case of the answer.
-pub fn rule_numbers(answer: RuleAnswer) -> GcRule
+pub fn rule_numbers(answer: Result<Known, definitions::Refusal>) -> GcRule
     ensures { result ≡ rule_numbers_of (rules.told answer) }
 {
     match answer {
-        RuleAnswer::Accepted(known) => GcRule {
+        Ok(known) => GcRule {
             refused: 0,
             place: 0,
             weight: known.weight as u64,
             uses: known.uses,
         },
-        RuleAnswer::Refused(x) => GcRule {
+        Err(x) => GcRule {
             refused: x.number(),
             place: x.place() as u64,
             weight: 0,
@@ -46,17 +46,17 @@ pub fn rule_numbers(answer: RuleAnswer) -> GcRule
     }
 }
 
-// The numbers for each case of the answer, of a model with so many states.
-pub fn model_numbers(states: usize, answer: ModelAnswer) -> GcModel
-    ensures { result ≡ state_numbers states (models.verdict_of answer) }
+// The numbers for each case of the answer: of a model only how many states it has.
+pub fn model_numbers(answer: Result<ModelData, models::Refusal>) -> GcModel
+    ensures { result ≡ model_numbers_of (models.told answer) }
 {
     match answer {
-        ModelAnswer::Accepted => GcModel {
+        Ok(model) => GcModel {
             refused: 0,
             place: 0,
-            states: states as u64,
+            states: model.states as u64,
         },
-        ModelAnswer::Refused(x) => GcModel {
+        Err(x) => GcModel {
             refused: x.number(),
             place: x.place() as u64,
             states: 0,

@@ -3,8 +3,7 @@ ghost use Rattle.std.specs.Prelude.{◌≡◌, ℕ, List};
 ghost use Rattle.search.specs.Answer as search;
 ghost use Rattle.c_answers.specs.Numbers.{searched_numbers_of};
 
-use passes::inner::Searched;
-use search::SearchAnswer;
+use search::{Answered, Refusal};
 
 // What a search gives back: `found` is 1 where there is a run, which `length` counts; and the propositions that the rule names.
 #[repr(C)]
@@ -19,29 +18,29 @@ pub struct GcSearched {
 }
 
 // The numbers for each case of the answer.
-pub fn searched_numbers(answer: SearchAnswer) -> GcSearched
+pub fn searched_numbers(answer: Result<Answered, Refusal>) -> GcSearched
     ensures { (run : List ℕ) → result ≡ searched_numbers_of (search.told answer run) }
 {
     match answer {
-        SearchAnswer::Answered { searched, rule } => match searched {
-            Searched::Found { long, pairs } => GcSearched {
+        Ok(Answered { searched, rule }) => match searched.found {
+            Some(long) => GcSearched {
                 refused: 0,
                 place: 0,
                 found: 1,
                 length: long as u64,
-                pairs: pairs as u64,
+                pairs: searched.pairs as u64,
                 uses: rule.uses,
             },
-            Searched::Nothing { pairs } => GcSearched {
+            None => GcSearched {
                 refused: 0,
                 place: 0,
                 found: 0,
                 length: 0,
-                pairs: pairs as u64,
+                pairs: searched.pairs as u64,
                 uses: rule.uses,
             },
         },
-        SearchAnswer::Refused(x) => GcSearched {
+        Err(x) => GcSearched {
             refused: x.number(),
             place: x.place() as u64,
             found: 0,

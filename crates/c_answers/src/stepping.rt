@@ -3,8 +3,8 @@ ghost use Rattle.std.specs.Prelude.{◌≡◌};
 ghost use Rattle.walkers.specs.Steps as walkers;
 ghost use Rattle.c_answers.specs.Numbers.{walker_from, walker_numbers_of, beside, stepped_numbers_of};
 
-use crate::following::GcMoved;
-use walkers::{Step, StepAnswer, Walker};
+use crate::following::{GcMoved, moved_numbers};
+use walkers::{Step, Walker};
 
 // A walker as the host keeps it; of `matched` it matters whether it is 0.
 #[repr(C)]
@@ -56,26 +56,13 @@ pub fn walker_numbers(w: Walker) -> GcWalker
 pub fn stepped_numbers(came: GcWalker, step: Step) -> Stepping
     ensures { beside result.walker result.says ≡ stepped_numbers_of came (walkers.told step) }
 {
-    let moved = step.walker;
-    let answer = step.answer;
-    match answer {
-        StepAnswer::Moved(matches) => {
-            let walker = walker_numbers(moved);
-            let says = GcMoved {
-                refused: 0,
-                place: 0,
-                matches: matches as u64,
-            };
-            Stepping { walker, says }
-        }
-        StepAnswer::Refused(x) => {
-            let says = GcMoved {
-                refused: x.number(),
-                place: x.place() as u64,
-                matches: 0,
-            };
-            Stepping { walker: came, says }
-        }
+    let walker = match step.answer {
+        Ok(_) => walker_numbers(step.walker),
+        Err(_) => came,
+    };
+    Stepping {
+        walker,
+        says: moved_numbers(step.answer),
     }
 }
 
@@ -83,12 +70,10 @@ pub fn stepped_numbers(came: GcWalker, step: Step) -> Stepping
 pub fn given_back(s: Stepping) -> GcStepped
     ensures { result ≡ beside s.walker s.says }
 {
-    let says = s.says;
-    let walker = s.walker;
     GcStepped {
-        refused: says.refused,
-        place: says.place,
-        matches: says.matches,
-        walker,
+        refused: s.says.refused,
+        place: s.says.place,
+        matches: s.says.matches,
+        walker: s.walker,
     }
 }

@@ -3,7 +3,7 @@ ghost use Rattle.std.specs.Prelude.{◌≡◌};
 ghost use Rattle.texts.specs.Answer as texts;
 ghost use Rattle.c_answers.specs.Numbers.{text_numbers_of};
 
-use texts::TextAnswer;
+use texts::{Given, TextRefusal};
 
 // What reading or writing a text gives back: how many bytes, or characters, were written, the rule's weight,
 // and the propositions that it names.
@@ -18,18 +18,18 @@ pub struct GcText {
 }
 
 // The numbers for each case of the answer.
-pub fn text_numbers(answer: TextAnswer) -> GcText
+pub fn text_numbers(answer: Result<Given, TextRefusal>) -> GcText
     ensures { result ≡ text_numbers_of (texts.told answer) }
 {
     match answer {
-        TextAnswer::Given { long, rule } => GcText {
+        Ok(given) => GcText {
             refused: 0,
             place: 0,
-            length: long as u64,
-            weight: rule.weight as u64,
-            uses: rule.uses,
+            length: given.long as u64,
+            weight: given.rule.weight as u64,
+            uses: given.rule.uses,
         },
-        TextAnswer::Refused(x) => GcText {
+        Err(x) => GcText {
             refused: x.number(),
             place: x.place() as u64,
             length: 0,

@@ -3,7 +3,7 @@ ghost use Rattle.std.specs.Prelude.{◌≡◌};
 ghost use Rattle.trims.specs.Answer as trims;
 ghost use Rattle.c_answers.specs.Numbers.{trimmed_numbers_of};
 
-use trims::TrimAnswer;
+use trims::{Refusal, TrimmedTable};
 
 // What trimming gives back: the new weight, and the set of the final states at their new numbers.
 #[repr(C)]
@@ -16,17 +16,17 @@ pub struct GcTrimmed {
 }
 
 // The numbers for each case of the answer.
-pub fn trimmed_numbers(answer: TrimAnswer) -> GcTrimmed
+pub fn trimmed_numbers(answer: Result<TrimmedTable, Refusal>) -> GcTrimmed
     ensures { result ≡ trimmed_numbers_of (trims.told answer) }
 {
     match answer {
-        TrimAnswer::Trimmed(table) => GcTrimmed {
+        Ok(table) => GcTrimmed {
             refused: 0,
             place: 0,
             weight: table.weight as u64,
             finals: table.finals,
         },
-        TrimAnswer::Refused(x) => GcTrimmed {
+        Err(x) => GcTrimmed {
             refused: x.number(),
             place: x.place() as u64,
             weight: 0,

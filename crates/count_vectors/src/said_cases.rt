@@ -1,82 +1,74 @@
 // What is accepted: the plain judge and the table that is followed, one after the other.
 use crate::show;
-use judge::JudgeAnswer;
 use std::io;
-use tables::TableAnswer;
-use walkers::FollowAnswer;
+use tables::Tabled;
 
 // 15 copies of 4 of one of one of .. of the empty sequence, as deep as the bytes allow: it weighs 60.
 const NESTED: [u8; 253] =
     *b"\x19\x0f\x0f\x19\x04\x04\x19\x01\x01\x19\x01\x01\x19\x01\x01\x19\x01\x01\x19\x01\x01\x19\x01\x01\x19\x01\x01\x19\x01\x01\x19\x01\x01\x19\x01\x01\x19\x01\x01\x19\x01\x01\x19\x01\x01\x19\x01\x01\x19\x01\x01\x19\x01\x01\x19\x01\x01\x19\x01\x01\x19\x01\x01\x19\x01\x01\x19\x01\x01\x19\x01\x01\x19\x01\x01\x19\x01\x01\x19\x01\x01\x19\x01\x01\x19\x01\x01\x19\x01\x01\x19\x01\x01\x19\x01\x01\x19\x01\x01\x19\x01\x01\x19\x01\x01\x19\x01\x01\x19\x01\x01\x19\x01\x01\x19\x01\x01\x19\x01\x01\x19\x01\x01\x19\x01\x01\x19\x01\x01\x19\x01\x01\x19\x01\x01\x19\x01\x01\x19\x01\x01\x19\x01\x01\x19\x01\x01\x19\x01\x01\x19\x01\x01\x19\x01\x01\x19\x01\x01\x19\x01\x01\x19\x01\x01\x19\x01\x01\x19\x01\x01\x19\x01\x01\x19\x01\x01\x19\x01\x01\x19\x01\x01\x19\x01\x01\x19\x01\x01\x19\x01\x01\x19\x01\x01\x19\x01\x01\x19\x01\x01\x19\x01\x01\x19\x01\x01\x19\x01\x01\x19\x01\x01\x19\x01\x01\x19\x01\x01\x19\x01\x01\x19\x01\x01\x19\x01\x01\x19\x01\x01\x19\x01\x01\x19\x01\x01\x19\x01\x01\x19\x01\x01\x19\x01\x01\x19\x01\x01\x19\x01\x01\x11";
 
 fn said(rt: &impl Print, yes: bool) -> io::Result<()> {
-    if yes {
-        show::text(rt, b" yes")?;
-    } else {
-        show::text(rt, b" no")?;
-    }
-    Ok(())
+    print!(rt; "{}", if yes { " yes" } else { " no" })
 }
 
 fn judge_says(rt: &impl Print, rule: &[u8], letters: &[u8]) -> io::Result<()> {
     match judge::judge(rule, letters) {
-        JudgeAnswer::Judged { accepts, rule: _ } => said(rt, accepts)?,
-        JudgeAnswer::Refused(x) => show::refused(rt, x.number(), x.place())?,
+        Ok(j) => said(rt, j.accepts)?,
+        Err(x) => show::refused(rt, x.number(), x.place())?,
     }
     Ok(())
 }
 
 fn followed(rt: &impl Print, table: &[u64], finals: u64, letters: &[u8]) -> io::Result<()> {
     match walkers::follow(table, finals, letters) {
-        FollowAnswer::Ended(matched) => said(rt, matched)?,
-        FollowAnswer::Refused(x) => show::refused(rt, x.number(), x.place())?,
+        Ok(matched) => said(rt, matched)?,
+        Err(x) => show::refused(rt, x.number(), x.place())?,
     }
     Ok(())
 }
 
 fn table_says(rt: &impl Print, rule: &[u8], letters: &[u8], table: &mut [u64]) -> io::Result<()> {
     match tables::build(rule, table) {
-        TableAnswer::Tabled { rule: _, finals } => followed(rt, table, finals, letters)?,
-        TableAnswer::Refused(x) => show::refused(rt, x.number(), x.place())?,
+        Ok(Tabled { rule: _, finals }) => followed(rt, table, finals, letters)?,
+        Err(x) => show::refused(rt, x.number(), x.place())?,
     }
     Ok(())
 }
 
 fn both(
     rt: &impl Print,
-    name: &[u8],
+    name: &str,
     rule: &[u8],
     letters: &[u8],
     table: &mut [u64],
 ) -> io::Result<()> {
-    show::text(rt, name)?;
-    show::text(rt, b":")?;
+    print!(rt; "{name}:")?;
     judge_says(rt, rule, letters)?;
     table_says(rt, rule, letters, table)?;
-    show::text(rt, b"\n")
+    println!(rt; "")
 }
 
 fn expiries(rt: &impl Print, table: &mut [u64]) -> io::Result<()> {
     let rule = b"\x19\x03\x05\x10\x01\x00";
-    both(rt, b"{p0}[*3..5] on [1 1]", rule, b"\x01\x01", table)?;
-    both(rt, b"{p0}[*3..5] on [1 1 1]", rule, b"\x01\x01\x01", table)?;
+    both(rt, "{p0}[*3..5] on [1 1]", rule, b"\x01\x01", table)?;
+    both(rt, "{p0}[*3..5] on [1 1 1]", rule, b"\x01\x01\x01", table)?;
     both(
         rt,
-        b"{p0}[*3..5] on [1 1 0 1]",
+        "{p0}[*3..5] on [1 1 0 1]",
         rule,
         b"\x01\x01\x00\x01",
         table,
     )?;
     both(
         rt,
-        b"{p0}[*3..5] on [1 1 1 1 1]",
+        "{p0}[*3..5] on [1 1 1 1 1]",
         rule,
         b"\x01\x01\x01\x01\x01",
         table,
     )?;
     both(
         rt,
-        b"{p0}[*3..5] on [1 1 1 1 1 1]",
+        "{p0}[*3..5] on [1 1 1 1 1 1]",
         rule,
         b"\x01\x01\x01\x01\x01\x01",
         table,
@@ -87,28 +79,28 @@ fn anywhere(rt: &impl Print, table: &mut [u64]) -> io::Result<()> {
     let rule = b"\x1A\x03\x05\x01\x00";
     both(
         rt,
-        b"p0[=3..5] on [1 0 1 0]",
+        "p0[=3..5] on [1 0 1 0]",
         rule,
         b"\x01\x00\x01\x00",
         table,
     )?;
     both(
         rt,
-        b"p0[=3..5] on [2 1 0 1 1 0]",
+        "p0[=3..5] on [2 1 0 1 1 0]",
         rule,
         b"\x02\x01\x00\x01\x01\x00",
         table,
     )?;
     both(
         rt,
-        b"p0[=3..5] on [1 1 1 1 1]",
+        "p0[=3..5] on [1 1 1 1 1]",
         rule,
         b"\x01\x01\x01\x01\x01",
         table,
     )?;
     both(
         rt,
-        b"p0[=3..5] on [1 1 1 0 1 1 1]",
+        "p0[=3..5] on [1 1 1 0 1 1 1]",
         rule,
         b"\x01\x01\x01\x00\x01\x01\x01",
         table,
@@ -116,24 +108,24 @@ fn anywhere(rt: &impl Print, table: &mut [u64]) -> io::Result<()> {
 }
 
 fn empty_parts(rt: &impl Print, table: &mut [u64]) -> io::Result<()> {
-    both(rt, b"{[*0]}[*3..3] on []", b"\x19\x03\x03\x11", b"", table)?;
+    both(rt, "{[*0]}[*3..3] on []", b"\x19\x03\x03\x11", b"", table)?;
     both(
         rt,
-        b"{{p0}[*]}[*2..2] on [1]",
+        "{{p0}[*]}[*2..2] on [1]",
         b"\x19\x02\x02\x17\x10\x01\x00",
         b"\x01",
         table,
     )?;
     both(
         rt,
-        b"{p0}[*0..0] on []",
+        "{p0}[*0..0] on []",
         b"\x19\x00\x00\x10\x01\x00",
         b"",
         table,
     )?;
     both(
         rt,
-        b"{p0}[*0..0] on [1]",
+        "{p0}[*0..0] on [1]",
         b"\x19\x00\x00\x10\x01\x00",
         b"\x01",
         table,
@@ -141,10 +133,10 @@ fn empty_parts(rt: &impl Print, table: &mut [u64]) -> io::Result<()> {
 }
 
 fn no_letters(rt: &impl Print, table: &mut [u64]) -> io::Result<()> {
-    both(rt, b"p0[=0..0] on []", b"\x1A\x00\x00\x01\x00", b"", table)?;
+    both(rt, "p0[=0..0] on []", b"\x1A\x00\x00\x01\x00", b"", table)?;
     both(
         rt,
-        b"p0[=0..0] on [0 1]",
+        "p0[=0..0] on [0 1]",
         b"\x1A\x00\x00\x01\x00",
         b"\x00\x01",
         table,
@@ -154,7 +146,7 @@ fn no_letters(rt: &impl Print, table: &mut [u64]) -> io::Result<()> {
 fn nested(rt: &impl Print, table: &mut [u64]) -> io::Result<()> {
     both(
         rt,
-        b"84 nested counts on 16 letters",
+        "84 nested counts on 16 letters",
         &NESTED,
         b"\x01\x01\x01\x01\x01\x01\x01\x01\x01\x01\x01\x01\x01\x01\x01\x01",
         table,

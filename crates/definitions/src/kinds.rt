@@ -1,15 +1,16 @@
 // What a kind byte says: the house form's table of kinds, grouped by what follows the byte.
 ghost use Rattle.std.specs.Prelude.{◌≡◌};
 ghost use Rattle.definitions.specs.Kinds.{kind_of};
+ghost use Rattle.definitions.specs.Encoding.{junction_byte, pair_byte, repeat_byte};
 
 // The connectives of two formulas.
-#[derive(Clone, Copy)]
+#[derive(Clone, Copy, Debug, PartialEq, Eq)]
 pub enum Junction {
     And,
     Or,
 }
 
-#[derive(Drop)]
+#[derive(Clone, Copy, Debug, PartialEq, Eq)]
 pub enum FormulaKind {
     Proposition,
     Truth,
@@ -19,7 +20,7 @@ pub enum FormulaKind {
 }
 
 // The operators of two rules: `;` `:` `|` `&` `&&`.
-#[derive(Clone, Copy)]
+#[derive(Clone, Copy, Debug, PartialEq, Eq)]
 pub enum Pair {
     Then,
     Overlap,
@@ -29,14 +30,14 @@ pub enum Pair {
 }
 
 // The operators of one rule: `[*]` `[+]`.
-#[derive(Drop)]
+#[derive(Clone, Copy, Debug, PartialEq, Eq)]
 pub enum Repeat {
     Star,
     Plus,
 }
 
 // Beside these: `[*i..j]` and `[=i..j]`, whose two counts follow the kind byte.
-#[derive(Drop)]
+#[derive(Clone, Copy, Debug, PartialEq, Eq)]
 pub enum RuleKind {
     Letter,
     Empty,
@@ -46,11 +47,50 @@ pub enum RuleKind {
     Occurs,
 }
 
-#[derive(Drop)]
+#[derive(Clone, Copy, Debug, PartialEq, Eq)]
 pub enum Kind {
     OfFormula(FormulaKind),
     OfRule(RuleKind),
     Unknown,
+}
+
+impl Junction {
+    // Its kind byte.
+    pub fn byte(self) -> u8
+        ensures { result ≡ junction_byte self }
+    {
+        match self {
+            Junction::And => 0x05,
+            Junction::Or => 0x06,
+        }
+    }
+}
+
+impl Pair {
+    // Its kind byte.
+    pub fn byte(self) -> u8
+        ensures { result ≡ pair_byte self }
+    {
+        match self {
+            Pair::Then => 0x12,
+            Pair::Overlap => 0x13,
+            Pair::Either => 0x14,
+            Pair::Within => 0x15,
+            Pair::Both => 0x16,
+        }
+    }
+}
+
+impl Repeat {
+    // Its kind byte.
+    pub fn byte(self) -> u8
+        ensures { result ≡ repeat_byte self }
+    {
+        match self {
+            Repeat::Star => 0x17,
+            Repeat::Plus => 0x18,
+        }
+    }
 }
 
 // The kind that a byte stands for; no row of the table has it: unknown.

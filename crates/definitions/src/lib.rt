@@ -9,7 +9,7 @@ pub mod counts; // the two counts after a kind byte
 pub mod numbers; // the numbers of the refusals that several calls share
 
 // Why a rule is refused; the variants stand in the order of their numbers, 1 to 8, and hold their places.
-#[derive(Clone, Copy)]
+#[derive(Clone, Copy, Debug, PartialEq, Eq)]
 pub enum Refusal {
     TooLong,
     Ended(usize),

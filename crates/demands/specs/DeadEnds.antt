@@ -6,7 +6,9 @@ use Rattle.definitions.specs.Definition1.{Rule}
 use Rattle.automata.specs.Table.{Table}
 use Rattle.models.specs.Model.{Model, Run}
 use Rattle.models.specs.Faults.{ModelFault}
-use Rattle.lasting.specs.declared.LastingAnswer.{LastingAnswer}
+use Rattle.std.specs.Prelude as std
+use Rattle.models.specs.declared.Refusal as model-refusal
+use Rattle.lasting.specs.declared.LastingStates.{LastingStates}
 use Rattle.lasting.specs.Endless.{Endless, LastingRun, LastingSet}
 use Rattle.lasting.specs.Alive.{alive}
 use Rattle.lasting.specs.Answer.{Result, lasts, refused, told, LastingRight}
@@ -36,7 +38,7 @@ LastingRefusedExactly = (g : List ℕ) (x : Result) (n p : ℕ) → LastingRight
 
 -- no second answer fits
 abbrev pub OneLasting : Type 0
-OneLasting = (g : List ℕ) (a b : LastingAnswer) → LastingRight g (told a) → LastingRight g (told b) → a ≡ b
+OneLasting = (g : List ℕ) (a b : std.Result LastingStates model-refusal.Refusal) → LastingRight g (told a) → LastingRight g (told b) → a ≡ b
 
 pub record DeadEnds : Type 0 where
   pub runs_of_the_rest : RunsOfTheRest

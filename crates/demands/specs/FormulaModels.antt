@@ -5,11 +5,12 @@ use Rattle.bits.specs.Word.{bit}
 use Rattle.definitions.specs.declared.kinds.Junction.TheVariants.{And, Or}
 use Rattle.definitions.specs.Definition1.{Formula, prop, yea, nay, neg, join}
 use Rattle.definitions.specs.Definition2.{holds}
-use Rattle.systems.specs.declared.SystemAnswer.{SystemAnswer}
+use Rattle.std.specs.Prelude as std
+use Rattle.systems.specs.declared.Refusal as system-refusal
 use Rattle.systems.specs.Spelling as systems
 use Rattle.systems.specs.Answer as reader
 use Rattle.systems.specs.Faults.{SystemFault}
-use Rattle.formula_models.specs.declared.FormulasAnswer.{FormulasAnswer}
+use Rattle.formula_models.specs.declared.Refusal as formula-refusal
 use Rattle.formula_models.specs.Answer.{Result, written, refused, told, FormulasRight}
 use Rattle.demands.specs.Terms.{IsModel, model_in_of}
 
@@ -76,11 +77,11 @@ FormulasRefusedExactly = (s b a : List ℕ) (x : Result) (n p : ℕ) → Reads s
 
 -- no second answer fits, and no second content of the slice
 abbrev pub OneFormulas : Type 0
-OneFormulas = (s b a a' : List ℕ) (x y : FormulasAnswer) → Reads s b a (told x) → Reads s b a' (told y) → (x ≡ y) × (a ≡ a')
+OneFormulas = (s b a a' : List ℕ) (x y : std.Result std.⊤ formula-refusal.Refusal) → Reads s b a (told x) → Reads s b a' (told y) → (x ≡ y) × (a ≡ a')
 
 -- and none of the call that only reads
 abbrev pub OneSystem : Type 0
-OneSystem = (s : List ℕ) (a b : SystemAnswer) → reader.told a ≡ reader.answer s → reader.told b ≡ reader.answer s → a ≡ b
+OneSystem = (s : List ℕ) (a b : std.Result ℕ system-refusal.Refusal) → reader.told a ≡ reader.answer s → reader.told b ≡ reader.answer s → a ≡ b
 
 pub record FormulaModels : Type 0 where
   pub system_bytes : SystemBytes

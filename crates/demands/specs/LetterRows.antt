@@ -1,6 +1,6 @@
 -- Request 2026-09: rows by letter. A table is stored the other way and back, and a walker over the rows does what it does over the table.
 -- Assumes nothing: these are definitions.
-use Rattle.std.specs.Prelude.{ℕ, ◌+◌, ◌*◌, ◌^◌, ◌≤◌, ◌<◌, ◌≡◌, ◌↔◌, ◌⊎◌, true, List, length, get_or}
+use Rattle.std.specs.Prelude.{ℕ, ◌+◌, ◌*◌, ◌^◌, ◌≤◌, ◌<◌, ◌≡◌, ◌↔◌, ◌⊎◌, Bool, true, List, length, get_or, Result, Ok}
 use Rattle.bits.specs.Word.{bit}
 use Rattle.bits.specs.Sets.{In}
 use Rattle.definitions.specs.Definition1.{Rule}
@@ -12,13 +12,11 @@ use Rattle.automata.specs.Promise.{Letters}
 use Rattle.steps.specs.Rows.{Rowed}
 use Rattle.walkers.specs.declared.Walker.{Walker}
 use Rattle.walkers.specs.declared.Step.{Step}
-use Rattle.walkers.specs.declared.StepAnswer.{StepAnswer}
-use Rattle.walkers.specs.declared.FollowAnswer.{FollowAnswer}
-use Rattle.walkers.specs.declared.FollowAnswer.TheVariants.{Ended}
+use Rattle.walkers.specs.declared.Refusal.{Refusal}
 use Rattle.walkers.specs.Steps.{refusal, told, given, step_of}
 use Rattle.walkers.specs.Walks.{follow_of, ending}
 use Rattle.walkers.specs.Remembers.{Took, Remembers}
-use Rattle.letter_rows.specs.declared.ConvertAnswer.{ConvertAnswer}
+use Rattle.letter_rows.specs.declared.Refusal.{Refusal as RowsRefusal}
 use Rattle.letter_rows.specs.Layouts.{RowsOf, table_by, rows_by}
 use Rattle.letter_rows.specs.Answer as rows
 use Rattle.demands.specs.CallFaults.{StepFault, FollowFault, ConvertFault}
@@ -64,10 +62,10 @@ abbrev pub RefusedTableKeeps : Type 0
 RefusedTableKeeps = (r before t : List ℕ) (n p : ℕ) → rows.TableRight r before t (rows.refused n p) → t ≡ before
 
 abbrev pub OneRows : Type 0
-OneRows = (t before u v : List ℕ) (a b : ConvertAnswer) → rows.RowsRight t before u (rows.told a) → rows.RowsRight t before v (rows.told b) → (a ≡ b) × (u ≡ v)
+OneRows = (t before u v : List ℕ) (a b : Result (Unit {0}) RowsRefusal) → rows.RowsRight t before u (rows.told a) → rows.RowsRight t before v (rows.told b) → (a ≡ b) × (u ≡ v)
 
 abbrev pub OneTableBack : Type 0
-OneTableBack = (r before u v : List ℕ) (a b : ConvertAnswer) → rows.TableRight r before u (rows.told a) → rows.TableRight r before v (rows.told b) → (a ≡ b) × (u ≡ v)
+OneTableBack = (r before u v : List ℕ) (a b : Result (Unit {0}) RowsRefusal) → rows.TableRight r before u (rows.told a) → rows.TableRight r before v (rows.told b) → (a ≡ b) × (u ≡ v)
 
 -- ---- walking: a call over rows promises what the call over `table_by rows`, the table whose rows they are, promises
 
@@ -76,12 +74,12 @@ abbrev pub StepSame : Type 0
 StepSame = (t r : List ℕ) → RowsOf t r → (w : Walker) (x : ℕ) (a b : Step) → told a ≡ step_of (table_by r) w x → told b ≡ step_of t w x → a ≡ b
 
 abbrev pub LentStepSame : Type 0
-LentStepSame = (t r : List ℕ) → RowsOf t r → (w : Walker) (x : ℕ) (left : Walker) (a : StepAnswer) (b : Step)
+LentStepSame = (t r : List ℕ) → RowsOf t r → (w : Walker) (x : ℕ) (left : Walker) (a : Result Bool Refusal) (b : Step)
     → told (given left a) ≡ step_of (table_by r) w x → told b ≡ step_of t w x → (a ≡ b.answer) × (left ≡ b.walker)
 
 -- and a whole sequence comes to the same
 abbrev pub FollowSame : Type 0
-FollowSame = (t r : List ℕ) → RowsOf t r → (f : ℕ) (w : List ℕ) (a b : FollowAnswer) → ending a ≡ follow_of (table_by r) f w → ending b ≡ follow_of t f w → a ≡ b
+FollowSame = (t r : List ℕ) → RowsOf t r → (f : ℕ) (w : List ℕ) (a b : Result Bool Refusal) → ending a ≡ follow_of (table_by r) f w → ending b ≡ follow_of t f w → a ≡ b
 
 -- short rows are refused as short tables are
 abbrev pub ShortSame : Type 0
@@ -96,7 +94,7 @@ FollowRowsRefusedExactly = (r : List ℕ) (f : ℕ) (w : List ℕ) (n p : ℕ) �
 
 -- over the rows of a rule's table yes is said exactly if Definition 2 accepts, and a walker remembers what it should
 abbrev pub RuleRowsFollowed : Type 0
-RuleRowsFollowed = (f : Rule) (t r : List ℕ) (finals : ℕ) → TableFor f t finals → RowsOf t r → (w : List ℕ) → Letters w → (a : FollowAnswer) → ending a ≡ follow_of (table_by r) finals w → (a ≡ Ended true) ↔ Sat f w
+RuleRowsFollowed = (f : Rule) (t r : List ℕ) (finals : ℕ) → TableFor f t finals → RowsOf t r → (w : List ℕ) → Letters w → (a : Result Bool Refusal) → ending a ≡ follow_of (table_by r) finals w → (a ≡ Ok true) ↔ Sat f w
 
 abbrev pub RuleRowsRemembered : Type 0
 RuleRowsRemembered = (f : Rule) (t r : List ℕ) (finals : ℕ) → TableFor f t finals → RowsOf t r → (w : List ℕ) (v : Walker) → Took (table_by r) finals w v → Remembers f w v

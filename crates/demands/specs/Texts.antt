@@ -7,7 +7,7 @@ use Rattle.rules.specs.Weight.{weight_of}
 use Rattle.definitions.specs.Encoding.{spell, Small}
 use Rattle.rules.specs.Answer.{known_of}
 use Rattle.rules.specs.Faults.{RuleFault}
-use Rattle.texts.specs.declared.TextAnswer.{TextAnswer}
+use Rattle.texts.specs.Answer.{TextAnswer}
 use Rattle.grammar.specs.Text.{text}
 use Rattle.texts.specs.Sharing.{IsText, Shares}
 use Rattle.texts.specs.Answer.{Result, given, refused, told, ReadRight, WriteRight}

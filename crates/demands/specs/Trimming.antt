@@ -1,6 +1,7 @@
 -- Request 2026-04: states that do no work are dropped. The trimmed table accepts the same sequences, and trimming again changes nothing;
 -- the search over it gives the search's run and refusals, and counts the trimmed table's pairs. Runs are those that can be continued for ever. Assumes nothing: these are definitions.
 use Rattle.std.specs.Prelude.{ℕ, ◌+◌, ◌*◌, ◌-◌, ◌≤◌, ◌<◌, ◌≡◌, ◌⊎◌, ◌↔◌, List, length, get_or, take}
+use Rattle.std.specs.Prelude as std
 use Rattle.rules.specs.declared.Known.{Known}
 use Rattle.definitions.specs.Definition1.{Rule}
 use Rattle.definitions.specs.Definition2.{Sat}
@@ -10,11 +11,12 @@ use Rattle.automata.specs.Table.{table_of, Accepts}
 use Rattle.tables.specs.Beyond.{Beyond}
 use Rattle.automata.specs.IsTable.{Words}
 use Rattle.automata.specs.Promise.{Letters, Serves}
-use Rattle.trims.specs.declared.TrimAnswer.{TrimAnswer}
+use Rattle.trims.specs.declared.Refusal.{Refusal}
+use Rattle.trims.specs.declared.TrimmedTable.{TrimmedTable}
 use Rattle.trims.specs.Kept.{Kept}
 use Rattle.trims.specs.Answer as trims
 use Rattle.lasting.specs.Endless.{LastingRun}
-use Rattle.search.specs.declared.SearchAnswer.{SearchAnswer}
+use Rattle.search.specs.Answer.{SearchAnswer}
 use Rattle.levels.specs.Right.{Answer, found, nothing, Matches, Shown, Pairs}
 use Rattle.search.specs.Answer.{Slices, LongEnough, Result, answered, refused, told, SearchRight}
 use Rattle.trimmed_search.specs.Answer.{TrimmedFor, TrimmedSearchRight}
@@ -65,7 +67,7 @@ RuleTablesTrimmed = (r : Rule) (t t' : List ℕ) (f : ℕ) (a : trims.Result) �
 
 -- no second answer fits, and no second content of the slice
 abbrev pub OneTrim : Type 0
-OneTrim = (t u v : List ℕ) (n f : ℕ) (a b : TrimAnswer) → trims.TrimRight t u n f (trims.told a) → trims.TrimRight t v n f (trims.told b) → (a ≡ b) × (u ≡ v)
+OneTrim = (t u v : List ℕ) (n f : ℕ) (a b : std.Result TrimmedTable Refusal) → trims.TrimRight t u n f (trims.told a) → trims.TrimRight t v n f (trims.told b) → (a ≡ b) × (u ≡ v)
 
 -- ---- the search over the trimmed table
 

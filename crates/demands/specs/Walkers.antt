@@ -1,13 +1,13 @@
 -- What is asked of walkers that remember: the count of letters, the first match, and the form that steps a walker where it stands.
 -- Assumes nothing: these are definitions.
-use Rattle.std.specs.Prelude.{ℕ, ◌≤◌, ◌<◌, ◌≡◌, ◌↔◌, true, List, [], length}
+use Rattle.std.specs.Prelude.{ℕ, ◌≤◌, ◌<◌, ◌≡◌, ◌↔◌, Bool, true, List, [], length, Result}
 use Rattle.definitions.specs.Definition1.{Rule}
 use Rattle.definitions.specs.Definition2.{Sat}
 use Rattle.automata.specs.Table.{table_of}
 use Rattle.automata.specs.Promise.{Letters, Serves}
 use Rattle.walkers.specs.declared.Walker.{Walker}
 use Rattle.walkers.specs.declared.Step.{Step}
-use Rattle.walkers.specs.declared.StepAnswer.{StepAnswer}
+use Rattle.walkers.specs.declared.Refusal.{Refusal}
 use Rattle.walkers.specs.Steps.{start_of, told, given, step_of}
 use Rattle.walkers.specs.Remembers.{Took, Remembers}
 use Rattle.demands.specs.Demand2.{TableFor}
@@ -31,7 +31,7 @@ EverySequenceTaken = (t : List ℕ) → 4096 ≤ length t → (f : ℕ) (l : Lis
 
 -- the two forms of a step do the same: what is said by the one is said by the other, and the walker that the one gives back is the one that the other leaves
 abbrev pub BothFormsSame : Type 0
-BothFormsSame = (t : List ℕ) (w : Walker) (x : ℕ) (s : Step) (left : Walker) (a : StepAnswer)
+BothFormsSame = (t : List ℕ) (w : Walker) (x : ℕ) (s : Step) (left : Walker) (a : Result Bool Refusal)
     → told s ≡ step_of t w x → told (given left a) ≡ step_of t w x → (a ≡ s.answer) × (left ≡ s.walker)
 
 pub record Walkers : Type 0 where

@@ -2,7 +2,7 @@
 use Prim.Native.Nat.{ℕ}
 use mathlib.Core.Path.{◌≡◌}
 use mathlib.Core.List.{List}
-use Rattle.search.specs.declared.SearchAnswer.{SearchAnswer}
+use Rattle.search.specs.Answer.{SearchAnswer}
 use Rattle.search.specs.Answer as search
 use Rattle.trimmed_search.specs.Answer.{TrimmedSearchRight}
 use Rattle.c_answers.specs.declared.searching.GcSearched.{GcSearched}

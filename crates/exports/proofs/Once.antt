@@ -3,19 +3,21 @@
 use Prim.Native.Nat.{ℕ}
 use mathlib.Core.Path.{◌≡◌, sym, ap, ap₂, ◌∙◌}
 use mathlib.Core.List.{List}
+use Rattle.std.specs.Prelude as std
 use Rattle.rules.specs.Answer as rules
 use Rattle.models.specs.Answer as models
-use Rattle.tables.specs.declared.TableAnswer.{TableAnswer}
+use Rattle.tables.specs.Answer.{TableAnswer}
 use Rattle.automata.specs.IsTable.{Words}
 use Rattle.tables.specs.Answer as tables
 use Rattle.tables.proofs.promise.Once as tables-once
-use Rattle.judge.specs.declared.JudgeAnswer.{JudgeAnswer}
 use Rattle.judge.specs.Verdict as judge
 use Rattle.judge.proofs.Once as judge-once
 use Rattle.walkers.specs.Steps as walkers
 use Rattle.walkers.specs.Walks.{follow_of}
-use Rattle.search.specs.declared.SearchAnswer.{SearchAnswer}
-use Rattle.lasting.specs.declared.LastingAnswer.{LastingAnswer}
+use Rattle.search.specs.Answer.{SearchAnswer}
+use Rattle.std.specs.Prelude as std
+use Rattle.models.specs.declared.Refusal as model-refusal
+use Rattle.lasting.specs.declared.LastingStates.{LastingStates}
 use Rattle.lasting.specs.Answer as lasting
 use Rattle.lasting.proofs.Once as lasting-once
 use Rattle.search.specs.Answer as search
@@ -31,14 +33,15 @@ use Rattle.c_answers.specs.declared.lasting_states.GcLasts.{GcLasts}
 use Rattle.c_answers.specs.declared.searching.GcSearched.{GcSearched}
 use Rattle.c_answers.specs.Numbers.{rule_numbers_of, model_numbers_of, built_numbers_of, judged_numbers_of, stepped_numbers_of, moved_numbers_of, lasting_numbers_of, searched_numbers_of, text_numbers_of, done_numbers_of, written_numbers_of, walker_from, walker_numbers_of, beside, trimmed_numbers_of}
 use Rattle.exports.specs.Promise.{GcBuilds, GcJudges, GcLasting, GcSearches, ReadsText, WritesText, GcTrims, GcModels, GcRowsOf, GcTableOf, GcSearchesTrimmed}
-use Rattle.trims.specs.declared.TrimAnswer.{TrimAnswer}
+use Rattle.trims.specs.declared.Refusal as trims-refusals
+use Rattle.trims.specs.declared.TrimmedTable.{TrimmedTable}
 use Rattle.trims.specs.Answer as trims
 use Rattle.trims.proofs.Once as trims-once
-use Rattle.letter_rows.specs.declared.ConvertAnswer.{ConvertAnswer}
+use Rattle.letter_rows.specs.declared.Refusal as rows-refusals
 use Rattle.letter_rows.specs.Answer as rows
 use Rattle.letter_rows.specs.Layouts.{table_by}
 use Rattle.letter_rows.proofs.Once as rows-once
-use Rattle.formula_models.specs.declared.FormulasAnswer.{FormulasAnswer}
+use Rattle.formula_models.specs.declared.Refusal as formula-refusal
 use Rattle.formula_models.specs.Answer as formula_answer
 use Rattle.formula_models.proofs.Once as models-once
 use Rattle.c_answers.specs.declared.modelling.GcWritten.{GcWritten}
@@ -81,17 +84,17 @@ one_row_follow t finals w r r' e e' = e ∙ sym e'
 pub one_rows_of : (t before u v : List ℕ) (r r' : GcDone) → GcRowsOf t before u r → GcRowsOf t before v r' → (r ≡ r') × (u ≡ v)
 one_rows_of t before u v r r' x x' =
     let o = rows-once.one_answer x.answer x'.answer x.right x'.right in
-    (x.given ∙ ap (λ (a : ConvertAnswer). done_numbers_of (rows.told a)) o.0 ∙ sym x'.given, o.1)
+    (x.given ∙ ap (λ (a : std.Result (Unit {0}) rows-refusals.Refusal). done_numbers_of (rows.told a)) o.0 ∙ sym x'.given, o.1)
 
 pub one_table_of : (t before u v : List ℕ) (r r' : GcDone) → GcTableOf t before u r → GcTableOf t before v r' → (r ≡ r') × (u ≡ v)
 one_table_of t before u v r r' x x' =
     let o = rows-once.one_answer x.answer x'.answer x.right x'.right in
-    (x.given ∙ ap (λ (a : ConvertAnswer). done_numbers_of (rows.told a)) o.0 ∙ sym x'.given, o.1)
+    (x.given ∙ ap (λ (a : std.Result (Unit {0}) rows-refusals.Refusal). done_numbers_of (rows.told a)) o.0 ∙ sym x'.given, o.1)
 
 pub one_formula_model : (s before u v : List ℕ) (r r' : GcWritten) → GcModels s before u r → GcModels s before v r' → (r ≡ r') × (u ≡ v)
 one_formula_model s before u v r r' x x' =
     let o = models-once.one_answer s before u v x.answer x'.answer x.right x'.right in
-    (x.given ∙ ap (λ (a : FormulasAnswer). written_numbers_of (formula_answer.told a)) o.0 ∙ sym x'.given, o.1)
+    (x.given ∙ ap (λ (a : std.Result std.⊤ formula-refusal.Refusal). written_numbers_of (formula_answer.told a)) o.0 ∙ sym x'.given, o.1)
 
 pub one_build : (s t u v : List ℕ) (r r' : GcBuilt) → Words u → Words v → GcBuilds s t u r → GcBuilds s t v r' → (r ≡ r') × (u ≡ v)
 one_build s t u v r r' hu hv b b' =
@@ -101,12 +104,12 @@ one_build s t u v r r' hu hv b b' =
 pub one_judgement : (s w : List ℕ) (r r' : GcJudged) → GcJudges s w r → GcJudges s w r' → r ≡ r'
 one_judgement s w r r' j j' =
     let o = judge-once.one_answer s w j.answer j'.answer j.right j'.right in
-    j.given ∙ ap (λ (a : JudgeAnswer). judged_numbers_of (judge.told a)) o ∙ sym j'.given
+    j.given ∙ ap (λ (a : judge.Answer). judged_numbers_of (judge.told a)) o ∙ sym j'.given
 
 pub one_lasting : (g : List ℕ) (r r' : GcLasts) → GcLasting g r → GcLasting g r' → r ≡ r'
 one_lasting g r r' x x' =
     let o = lasting-once.one_answer g x.answer x'.answer x.right x'.right in
-    x.given ∙ ap (λ (a : LastingAnswer). lasting_numbers_of (lasting.told a)) o ∙ sym x'.given
+    x.given ∙ ap (λ (a : std.Result LastingStates model-refusal.Refusal). lasting_numbers_of (lasting.told a)) o ∙ sym x'.given
 
 pub one_search : (s g : List ℕ) (b a d : search.Slices) (r r' : GcSearched) → Words a.table → Words d.table → GcSearches s g b a r → GcSearches s g b d r' → (r ≡ r') × (a ≡ d)
 one_search s g b a d r r' ha hd x x' =
@@ -116,7 +119,7 @@ one_search s g b a d r r' ha hd x x' =
 pub one_trim : (t u v : List ℕ) (n f : ℕ) (r r' : GcTrimmed) → GcTrims t u n f r → GcTrims t v n f r' → (r ≡ r') × (u ≡ v)
 one_trim t u v n f r r' x x' =
     let o = trims-once.one_answer t u v n f x.answer x'.answer x.right x'.right in
-    (x.given ∙ ap (λ (a : TrimAnswer). trimmed_numbers_of (trims.told a)) o.0 ∙ sym x'.given, o.1)
+    (x.given ∙ ap (λ (a : std.Result TrimmedTable trims-refusals.Refusal). trimmed_numbers_of (trims.told a)) o.0 ∙ sym x'.given, o.1)
 
 pub one_search_trimmed : (s g : List ℕ) (b a d : search.Slices) (r r' : GcSearched) → GcSearchesTrimmed s g b a r → GcSearchesTrimmed s g b d r' → (r ≡ r') × (a ≡ d)
 one_search_trimmed s g b a d r r' x x' =

@@ -17,8 +17,5 @@ pub fn gc_read_rule(rule: &[u8]) -> GcRule
 pub fn gc_read_model(model: &[u8]) -> GcModel
     ensures { result ≡ model_numbers_of (models.answer model.now) }
 {
-    let read = models::read_model(model);
-    let states = read.model.states;
-    let answer = read.answer;
-    model_numbers(states, answer)
+    model_numbers(models::read_model(model))
 }

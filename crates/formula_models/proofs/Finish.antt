@@ -5,8 +5,6 @@ use mathlib.Core.Path.{◌≡◌, refl, sym, subst}
 use mathlib.Core.List.{List, ◌++◌}
 use lib.ListN.{length, drop}
 use Rattle.definitions.specs.Definition1.{Formula}
-use Rattle.systems.specs.declared.SystemAnswer.{SystemAnswer}
-use Rattle.systems.specs.declared.SystemAnswer.TheVariants as system_answer
 use Rattle.systems.specs.declared.Refusal as system-refusal
 use Rattle.systems.specs.Answer as systems
 use Rattle.systems.specs.Answer.{AcceptedAs}
@@ -21,10 +19,10 @@ use Rattle.formula_models.specs.Answer.{written, refused, FormulasRight, no_syst
 use Rattle.formula_models.specs.inner.Rows.{SystemStands}
 
 module _ (s b : List ℕ) where
-  pub told_refused : (a : SystemAnswer) (x : system-refusal.Refusal) → a ≡ system_answer.Refused x → systems.told a ≡ systems.answer s → FormulasRight s b b (refused (number (OfSystem x)) (place (OfSystem x)))
-  told_refused a x e q = no_system (sym (subst (λ (r : SystemAnswer). systems.told r ≡ systems.answer s) e q)) refl
+  pub told_refused : (x : system-refusal.Refusal) → systems.refused (number (OfSystem x)) (place (OfSystem x)) ≡ systems.answer s → FormulasRight s b b (refused (number (OfSystem x)) (place (OfSystem x)))
+  told_refused x q = no_system (sym q) refl
 
-  module _ (a : SystemAnswer) (step : ℕ) (e : a ≡ system_answer.Accepted step) (q : systems.told a ≡ systems.answer s) where
+  module _ (step : ℕ) (q : systems.accepted step ≡ systems.answer s) where
     -- the system that was read, which stands there
     record Read : Type 0 where
       f : Formula
@@ -35,7 +33,7 @@ module _ (s b : List ℕ) where
 
     as_read : Read
     as_read =
-        let i = as_a_system s step (subst (λ (r : SystemAnswer). systems.told r ≡ systems.answer s) e q) in
+        let i = as_a_system s step q in
         let t = stands s i.0 i.1 i.2.read in
         let l = formula_long t.first in
         let k = formula_ends s t.first in

@@ -7,6 +7,8 @@ use mathlib.Core.List.{List, ◌++◌}
 use lib.Dec.{ltb}
 use lib.ListN.{drop}
 use borrow.Author.Tests.{ltb-true}
+use Rattle.std.specs.Prelude.{⊤, Ok, Err}
+use Rattle.std.specs.Prelude as std
 use Rattle.definitions.specs.Numbers.{short_slice_number}
 use Rattle.definitions.specs.Definition1.{Formula}
 use Rattle.systems.specs.declared.Refusal as systems-refusal
@@ -18,8 +20,6 @@ use Rattle.systems.proofs.Accepting.{accepted_once, system_answer}
 use Rattle.systems.proofs.Once.{one_refusal as system-refusal-once}
 use Rattle.formula_models.specs.declared.Refusal.{Refusal}
 use Rattle.formula_models.specs.declared.Refusal.TheVariants.{OfSystem, ShortModel}
-use Rattle.formula_models.specs.declared.FormulasAnswer.{FormulasAnswer}
-use Rattle.formula_models.specs.declared.FormulasAnswer.TheVariants.{Written, Refused}
 use Rattle.formula_models.specs.Refusals.{number, place}
 use Rattle.formula_models.specs.Bytes.{model_length, model_bytes}
 use Rattle.formula_models.specs.Answer.{Result, refused, told, FormulasRight, no_system, short_model, the_model}
@@ -61,11 +61,11 @@ one_refusal (OfSystem x) ShortModel n p = absurd (not_21 x n)
 one_refusal ShortModel (OfSystem y) n p = absurd (not_21 y (sym n))
 one_refusal ShortModel ShortModel n p = refl
 
-one_told : (x y : FormulasAnswer) → told x ≡ told y → x ≡ y
-one_told Written Written e = refl
-one_told Written (Refused y) e = absurd (let z : ◌≡◌ {A = ℕ} 0 1 = cc in omega arith)
-one_told (Refused x) Written e = absurd (let z : ◌≡◌ {A = ℕ} 0 1 = cc in omega arith)
-one_told (Refused x) (Refused y) e = let n : number x ≡ number y = cc in let p : place x ≡ place y = cc in ap Refused (one_refusal x y n p)
+one_told : (x y : std.Result ⊤ Refusal) → told x ≡ told y → x ≡ y
+one_told (Ok u) (Ok v) e = refl
+one_told (Ok u) (Err y) e = absurd (let z : ◌≡◌ {A = ℕ} 0 1 = cc in omega arith)
+one_told (Err x) (Ok u) e = absurd (let z : ◌≡◌ {A = ℕ} 0 1 = cc in omega arith)
+one_told (Err x) (Err y) e = let n : number x ≡ number y = cc in let p : place x ≡ place y = cc in ap Err (one_refusal x y n p)
 
-pub one_answer : (s b c d : List ℕ) (x y : FormulasAnswer) → FormulasRight s b c (told x) → FormulasRight s b d (told y) → (x ≡ y) × (c ≡ d)
+pub one_answer : (s b c d : List ℕ) (x y : std.Result ⊤ Refusal) → FormulasRight s b c (told x) → FormulasRight s b d (told y) → (x ≡ y) × (c ≡ d)
 one_answer s b c d x y p q = let o = one_result p q in (one_told x y o.0, o.1)

@@ -1,12 +1,14 @@
 -- Writing the model: a set byte by byte, a record, the records one after the other. Assumes nothing.
-use Prim.Native.Nat.{ℕ, zero, suc, ◌+◌, ◌*◌, ◌-◌, ◌/◌, ◌%◌, ◌<◌, ◌≤◌}
+use Prim.Native.Nat.{ℕ, zero, suc, ◌+◌, ◌*◌, ◌/◌, ◌<◌, ◌≤◌}
 use native.Mathlib.Omega.{arith}
 use native.Mathlib.Numerals.{add-one}
 use native.Mathlib.Nat.{zero-add}
 use mathlib.Core.Path.{◌≡◌, refl, sym, ap, ap₂, subst, ◌∙◌}
-use mathlib.Core.Bool.{Bool, true}
-use mathlib.Core.List.{List, [], ◌∷◌, ◌++◌, append_assoc, append-nil}
+use mathlib.Core.Bool.{Bool, true, false}
+use mathlib.Core.List.{List, [], ◌∷◌, ◌++◌}
 use lib.ListN.{length, get_or, drop, length-append}
+use Rattle.std.specs.Int.{w64, to_le_bytes, from_bool}
+use Rattle.std.proofs.Math.Nat.{div-div-eq-div-mul}
 use Rattle.bits.specs.Word.{bit, num, word}
 use Rattle.bits.proofs.Laws.{bit_word}
 use Rattle.definitions.specs.Definition1.{Formula}
@@ -25,44 +27,15 @@ unfolding bytes_of
 bytes_length zero w = refl
 bytes_length (suc n) w = ap suc (bytes_length n (w / 256))
 
-bytes_turn : (n w : ℕ) → 0 < n → bytes_of n w ≡ w % 256 ∷ bytes_of (n - 1) (w / 256)
+-- as the library writes a word
+pub low_bytes : (w : ℕ) → to_le_bytes w64 w ≡ bytes_of 8 w
 unfolding bytes_of
-bytes_turn zero w h = absurd (omega arith)
-bytes_turn (suc n) w h = let e : n ≡ suc n - 1 = omega arith in ap (λ (k : ℕ). w % 256 ∷ bytes_of k (w / 256)) e
+low_bytes w = simp div-div-eq-div-mul
 
--- some bytes of the set are written, and `left` are not
-pub record SetPut (b : List ℕ) (at set : ℕ) (o : List ℕ) (e rest left : ℕ) : Type 0 where
-  pub part : List ℕ
-  pub wrote : Wrote part b at o e
-  pub whole : part ++ bytes_of left rest ≡ bytes_of 8 set
-
-pub set_none : (b : List ℕ) (at set : ℕ) → SetPut b at set b at set 8
-set_none b at set = record { part = []; wrote = wrote_none b at; whole = refl }
-
-module _ {b : List ℕ} {at set : ℕ} {o : List ℕ} {e rest left : ℕ} (x : SetPut b at set o e rest left) where
-  pub set_room : at + 8 ≤ length b → 0 < left → e < length o
-  set_room h l =
-      let n = length-append x.part (bytes_of left rest) in
-      let m = bytes_length left rest in
-      let k = bytes_length 8 set in
-      let q = ap length x.whole in
-      let u = x.wrote.ends in
-      let v = x.wrote.size in
-      omega arith
-
-  pub set_turn : {o' : List ℕ} {e' : ℕ} → at + 8 ≤ length b → 0 < left → Wrote (rest % 256 ∷ []) o e o' e' → SetPut b at set o' e' (rest / 256) (left - 1)
-  set_turn {o'} {e'} h l y = record {
-    part = x.part ++ (rest % 256 ∷ []);
-    wrote = wrote_more (omega arith) x.wrote y;
-    whole = append_assoc x.part (rest % 256 ∷ []) (bytes_of (left - 1) (rest / 256)) ∙ ap (λ (l : List ℕ). x.part ++ l) (sym (bytes_turn left rest l)) ∙ x.whole;
-  }
-
-  pub set_whole : left ≤ 0 → Wrote (bytes_of 8 set) b at o e
-  unfolding bytes_of
-  set_whole l =
-      let n : left ≡ 0 = omega arith in
-      let q : x.part ≡ bytes_of 8 set = sym (append-nil x.part) ∙ ap (λ (k : ℕ). x.part ++ bytes_of k rest) (sym n) ∙ x.whole in
-      subst (λ (p : List ℕ). Wrote p b at o e) q x.wrote
+-- a flag as the library converts it
+pub byte_num : (b : Bool) → from_bool b ≡ num b
+byte_num true = refl
+byte_num false = refl
 
 -- ---- a record
 

@@ -1,11 +1,11 @@
 -- What reading two formulas comes to, for every string of bytes and every slice. Assumes nothing: these are definitions.
-use Rattle.std.specs.Prelude.{ℕ, ◌<◌, ◌≤◌, ◌≡◌, List, ◌++◌, length, drop}
+use Rattle.std.specs.Prelude.{ℕ, ◌<◌, ◌≤◌, ◌≡◌, List, ◌++◌, length, drop, ⊤, Ok, Err}
+use Rattle.std.specs.Prelude as std
 use Rattle.definitions.specs.Numbers.{short_slice_number}
 use Rattle.definitions.specs.Definition1.{Formula}
 use Rattle.systems.specs.Answer as systems
 use Rattle.systems.specs.Answer.{AcceptedAs}
-use Rattle.formula_models.specs.declared.FormulasAnswer.{FormulasAnswer}
-use Rattle.formula_models.specs.declared.FormulasAnswer.TheVariants as variants
+use Rattle.formula_models.specs.declared.Refusal.{Refusal}
 use Rattle.formula_models.specs.Refusals.{number, place}
 use Rattle.formula_models.specs.Bytes.{model_length, model_bytes}
 
@@ -15,9 +15,9 @@ pub data Result : Type 0 where
   refused : ℕ → ℕ → Result
 
 -- the paper's number and values for each case of the answer
-abbrev pub told : FormulasAnswer → Result
-told variants.Written = written
-told (variants.Refused x) = refused (number x) (place x)
+abbrev pub told : std.Result ⊤ Refusal → Result
+told (Ok u) = written
+told (Err x) = refused (number x) (place x)
 
 -- the right result for the bytes s and the slice `before`, which is `after` after the call: the formulas' refusals, then 21, and the slice as it was; else
 -- the slice begins with the model of the two formulas, and is as it was past it

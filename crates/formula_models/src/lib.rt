@@ -6,7 +6,7 @@ ghost use Rattle.formula_models.specs.Refusals.{number, place};
 ghost use Rattle.formula_models.specs.Answer.{told, FormulasRight};
 
 use definitions::numbers::SHORT_SLICE;
-use systems::{SystemAnswer, read_system};
+use systems::read_system;
 
 mod rows; // the successors of all states, by one walk over the step's formula
 mod records; // the model's bytes
@@ -15,7 +15,7 @@ mod records; // the model's bytes
 pub const MODEL_BYTES: usize = 704;
 
 // Why nothing is written.
-#[derive(Clone, Copy)]
+#[derive(Clone, Copy, Debug, PartialEq, Eq)]
 pub enum Refusal {
     // the formulas' own
     OfSystem(systems::Refusal),
@@ -45,27 +45,25 @@ impl Refusal {
     }
 }
 
-// What reading formulas comes to.
-#[derive(Drop)]
-pub enum FormulasAnswer {
-    // The slice begins with the model.
-    Written,
-    // The slice is as it was.
-    Refused(Refusal),
+impl From<systems::Refusal> for Refusal {
+    ghost use Rattle.std.specs.Prelude.{◌≡◌};
+    ghost use Rattle.formula_models.specs.declared.Refusal.TheVariants.{OfSystem};
+
+    ghost from_gives = { λ x r. r ≡ OfSystem x };
+
+    fn from(refusal: systems::Refusal) -> Refusal {
+        Refusal::OfSystem(refusal)
+    }
 }
 
-// Reads two formulas and writes their model: any bytes and any slice have one answer, and a refusal leaves the slice as it was.
-pub fn read_formulas(formulas: &[u8], model: &mut [u8]) -> FormulasAnswer
+// Reads two formulas and writes their model: any bytes and any slice have one answer. The slice then begins with the model; a refusal leaves it as it was.
+pub fn read_formulas(formulas: &[u8], model: &mut [u8]) -> Result<(), Refusal>
     ensures { FormulasRight formulas.now model.old model.new (told result) }
 {
-    match read_system(formulas) {
-        SystemAnswer::Refused(x) => FormulasAnswer::Refused(Refusal::OfSystem(x)),
-        SystemAnswer::Accepted(step) => {
-            if model.len() < MODEL_BYTES {
-                return FormulasAnswer::Refused(Refusal::ShortModel);
-            }
-            records::write_model(formulas, step, model);
-            FormulasAnswer::Written
-        }
+    let step = read_system(formulas)?;
+    if model.len() < MODEL_BYTES {
+        return Err(Refusal::ShortModel);
     }
+    records::write_model(formulas, step, model);
+    Ok(())
 }

@@ -1,6 +1,6 @@
 // The bytes of the model: a record for each of the 64 states.
 ghost use Rattle.std.specs.Prelude.{◌≡◌, ◌++◌, ◌+◌, ◌≤◌, length, get_or, drop};
-ghost use Rattle.bits.specs.Word.{bit, num};
+ghost use Rattle.bits.specs.Word.{bit};
 ghost use Rattle.definitions.specs.Definition1.{Formula};
 ghost use Rattle.systems.specs.inner.Walks.{Stands};
 ghost use Rattle.writing.specs.Wrote.{Wrote};
@@ -9,38 +9,20 @@ ghost use Rattle.formula_models.specs.inner.Rows.{model_states, SystemStands};
 
 use crate::rows::{STATES, rows_at};
 use formulas::label_at;
-use writing::put_byte;
+use writing::{put_byte, put_word};
 
 // The kind of a state's record.
 const STATE: u8 = 0x20;
 
-// The bytes of a set of states.
-const SET_BYTES: usize = 8;
-
 // Rows for the operands of the deepest step's formula.
 const GRID: usize = 8192;
-
-// The flag of a state that is initial, or not.
-fn flag_of(initial: bool) -> u8
-    ensures { result ≡ num initial }
-{
-    if initial { 1 } else { 0 }
-}
 
 // A set of states, lowest byte first.
 fn put_set(out: &mut [u8], at: usize, set: u64) -> usize
     requires { at + 8 ≤ length out.old }
     ensures { Wrote (bytes_of 8 set) out.old at out.new result }
 {
-    let mut end = at;
-    let mut rest = set;
-    let mut left = SET_BYTES;
-    while 0 < left {
-        end = put_byte(out, end, (rest % 256) as u8);
-        rest /= 256;
-        left -= 1;
-    }
-    end
+    put_word(out, at, &set.to_le_bytes())
 }
 
 // The record of a state.
@@ -50,7 +32,7 @@ fn put_record(out: &mut [u8], at: usize, letter: u8, initial: bool, set: u64) ->
 {
     let a = put_byte(out, at, STATE);
     let b = put_byte(out, a, letter);
-    let c = put_byte(out, b, flag_of(initial));
+    let c = put_byte(out, b, u8::from(initial));
     put_set(out, c, set)
 }
 
@@ -60,10 +42,8 @@ fn put_records(out: &mut [u8], initial: u64, successors: &[u64]) -> usize
     ensures { Wrote (records (bit initial) (λ x. get_or successors.now x 0) model_states) out.old 0 out.new result }
 {
     let mut end: usize = 0;
-    let mut x: usize = 0;
-    while x < STATES {
+    for x in 0..STATES {
         end = put_record(out, end, x as u8, bits::has(initial, x), successors[x]);
-        x += 1;
     }
     end
 }

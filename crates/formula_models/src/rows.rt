@@ -1,8 +1,8 @@
 // The successors of all 64 states at once. A row of 64 words has a word for each state x, bit y for the successor y: an operator's row is made of its
 // operands' rows by whole words, so that the formula is walked once and not for each state.
-ghost use Rattle.std.specs.Prelude.{◌≡◌, ◌+◌, ◌-◌, ◌^◌, ◌≤◌, length, get_or};
+ghost use Rattle.std.specs.Prelude.{◌≡◌, ℕ, ◌+◌, ◌-◌, ◌^◌, ◌<◌, ◌≤◌, length, get_or};
 ghost use Rattle.bits.specs.Word.{bit, word};
-ghost use Rattle.formula_models.specs.inner.Rows.{model_states, all_if_of, join_words_of, RowPut, RowsRoom, RowsAt};
+ghost use Rattle.formula_models.specs.inner.Rows.{model_states, all_if_of, join_words_of, RowMade, RowPut, RowsRoom, RowsAt};
 
 use definitions::kinds::{FormulaKind, Junction};
 use formulas::label_at;
@@ -38,16 +38,23 @@ fn join_words(j: Junction, a: u64, b: u64) -> u64
     }
 }
 
+// Each word of the row at base becomes what is made of its state and of itself.
+fn set_row<F: Fn(usize, u64) -> u64>(grid: &mut [u64], base: usize, word: F)
+    requires room { base + model_states ≤ length grid.old }
+    requires can { (x w : ℕ) → x < model_states → w < 2 ^ model_states → F.pre word x w }
+    ensures { RowMade grid.old grid.new base (F.post word) }
+{
+    for x in 0..STATES {
+        grid[base + x] = word(x, grid[base + x]);
+    }
+}
+
 // From every state to these.
 fn same(grid: &mut [u64], base: usize, set: u64)
     requires { base + model_states ≤ length grid.old }
     ensures { RowPut grid.old grid.new base (λ x. set) }
 {
-    let mut x: usize = 0;
-    while x < STATES {
-        grid[base + x] = set;
-        x += 1;
-    }
+    set_row(grid, base, |_, _| set);
 }
 
 // From the states in which variable i holds to all, from the others to none.
@@ -55,11 +62,7 @@ fn by_bit(grid: &mut [u64], base: usize, i: usize)
     requires { (base + model_states ≤ length grid.old) × (i ≤ 5) }
     ensures { RowPut grid.old grid.new base (λ x. all_if_of (bit x i)) }
 {
-    let mut x: usize = 0;
-    while x < STATES {
-        grid[base + x] = all_if(bits::has(x as u64, i));
-        x += 1;
-    }
+    set_row(grid, base, |x, _| all_if(bits::has(x as u64, i)));
 }
 
 // To all other states.
@@ -67,12 +70,7 @@ fn flip(grid: &mut [u64], base: usize)
     requires { base + model_states ≤ length grid.old }
     ensures { RowPut grid.old grid.new base (λ x. 2 ^ model_states - 1 - get_or grid.old (base + x) 0) }
 {
-    let mut x: usize = 0;
-    while x < STATES {
-        let at = base + x;
-        grid[at] = !grid[at];
-        x += 1;
-    }
+    set_row(grid, base, |_, set| !set);
 }
 
 // The row at base and the one behind it become the row of the junction.
@@ -80,13 +78,8 @@ fn join_rows(grid: &mut [u64], base: usize, j: Junction)
     requires { base + model_states + model_states ≤ length grid.old }
     ensures { RowPut grid.old grid.new base (λ x. join_words_of j (get_or grid.old (base + x) 0) (get_or grid.old (base + model_states + x) 0)) }
 {
-    let behind = base + STATES;
-    let mut x: usize = 0;
-    while x < STATES {
-        let set = join_words(j, grid[base + x], grid[behind + x]);
-        grid[base + x] = set;
-        x += 1;
-    }
+    let (rows, behind) = grid.split_at_mut(base + STATES);
+    set_row(rows, base, |x, set| join_words(j, set, behind[x]));
 }
 
 // The row of the formula that stands at `at`, from base on; the rows of its operands stand there and behind. The place after the formula.

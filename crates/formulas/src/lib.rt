@@ -24,14 +24,14 @@ const PROPOSITIONS: [u64; 6] = [
 const NOT: u8 = 0x04;
 
 // Whether a formula holds in the letter, and the place after the formula.
-#[derive(Drop)]
+#[derive(Clone, Copy, Debug, PartialEq, Eq)]
 pub struct Held {
     pub holds: bool,
     pub end: usize,
 }
 
 // A formula's label, and the place after the formula.
-#[derive(Drop)]
+#[derive(Clone, Copy, Debug, PartialEq, Eq)]
 pub struct Labelled {
     pub label: u64,
     pub end: usize,
@@ -41,8 +41,8 @@ fn join(j: Junction, a: bool, b: bool) -> bool
     ensures { result ≡ joined j a b }
 {
     match j {
-        Junction::And => if a { b } else { false },
-        Junction::Or => if a { true } else { b },
+        Junction::And => a && b,
+        Junction::Or => a || b,
     }
 }
 
@@ -107,7 +107,7 @@ fn flip(odd: bool, label: u64) -> u64
 }
 
 // Where the `not`s in a row end, and whether they are odd in number.
-#[derive(Drop)]
+#[derive(Clone, Copy, Debug, PartialEq, Eq)]
 pub struct Nots {
     pub end: usize,
     pub odd: bool,

@@ -8,20 +8,20 @@ use lib.ListN.{length, get_or, drop, drop_of_length-le}
 use lib.Seq.{drop-cons}
 use borrow.Author.Tests.{ne_eqb}
 use Rattle.definitions.specs.declared.kinds.Junction.{Junction}
-use Rattle.definitions.specs.declared.kinds.Junction.TheVariants.{And, Or}
 use Rattle.definitions.specs.declared.kinds.Pair.{Pair}
 use Rattle.definitions.specs.declared.kinds.Pair.TheVariants.{Then, Overlap, Either, Within, Both}
-use Rattle.definitions.specs.Encoding.{junction_byte, pair_byte}
+use Rattle.definitions.specs.declared.kinds.Repeat.TheVariants.{Star, Plus}
+use Rattle.std.specs.Prelude.{Option, Some, None, Result, Ok, Err}
+use Rattle.grammar.specs.declared.words.Fault.{Fault}
 use Rattle.grammar.specs.declared.counts.Counted.{Counted}
-use Rattle.grammar.specs.declared.counts.Counted.TheVariants as counted-told
 use Rattle.grammar.specs.declared.signs.Head.{Head}
+use Rattle.grammar.specs.declared.signs.Head.TheVariants as head-of
 use Rattle.grammar.specs.declared.signs.Headed.{Headed}
-use Rattle.grammar.specs.declared.signs.Headed.TheVariants as headed
 use Rattle.grammar.specs.declared.signs.Sign.{Sign}
 use Rattle.grammar.specs.declared.signs.Sign.TheVariants as signed
 use Rattle.grammar.specs.Text.{junction_char}
-use Rattle.grammar.specs.inner.Reading.{Need, rule, junction, tail, second, bracket, star, occurrence, sign, Counts, uncounted, from, plus, starred, Tail, Second, within, both, seconded, Value, Values, Rest, Row, row, counts, from_to, rows, scan}
-use Rattle.grammar.specs.inner.Wide.{head_bytes, plain_head, bracket_head, standing_head}
+use Rattle.grammar.specs.inner.Reading.{Need, rule, junction, tail, second, bracket, star, occurrence, sign, repeated, Counts, uncounted, from, plus, starred, Tail, Second, within, both, seconded, Value, Values, Rest, Row, row, counts, from_to, rows, scan}
+use Rattle.grammar.specs.inner.Wide.{head_bytes, bracket_head, standing_head}
 use Rattle.grammar.specs.inner.Places.{At, Fails, Passes, CountedAt, are, no_counts, HeadedAt, by, unheaded, StarAt, BracketAt, OccurrenceAt, JunctionAt, joins, no_junction, Operator, SignAt, operator, repetition, no_sign}
 use Rattle.grammar.proofs.Rights.{Right, rights}
 use Rattle.grammar.proofs.Picking.{Opens}
@@ -29,19 +29,15 @@ use Rattle.grammar.proofs.Complete.{no_and, no_bracket, Free, over_none}
 use Rattle.grammar.proofs.Standing.{seen, other_sign, absent, no_part, char_part, parts}
 use Rattle.grammar.proofs.Passing.{sign_passes, then_passes, then_fails, first_fails, row_passes, row_fails}
 
--- which kind was found
-junction_byte_lem : (j : Junction) → 0 < junction_byte j
-junction_byte_lem And = omega arith
-junction_byte_lem Or = omega arith
+-- which junction was found
+module _ {s : List ℕ} {at : ℕ} {r : Option Junction} where
+  pub is_junction : JunctionAt s at r → (j : Junction) → r ≡ Some j → At s at (junction_char j)
+  is_junction (joins j' q a) j z = let i : j' ≡ j = cc in subst (λ (k : Junction). At s at (junction_char k)) i a
+  is_junction (no_junction q f) j z = absurd (let y : ◌≡◌ {A = ℕ} 0 1 = cc in omega arith)
 
-module _ (s : List ℕ) (at kind : ℕ) where
-  pub is_junction : JunctionAt s at kind → (kind ≡ 0 → ⊥) → (j : Junction) × At s at (junction_char j) × (kind ≡ junction_byte j)
-  is_junction (joins j a q) n = (j, a, q)
-  is_junction (no_junction f q) n = absurd (n q)
-
-  pub not_junction : JunctionAt s at kind → kind ≡ 0 → Fails s at (junction ∷ []) at
-  not_junction (joins j a q) n = let l = junction_byte_lem j in absurd (omega arith)
-  not_junction (no_junction f q) n = f
+  pub not_junction : JunctionAt s at r → r ≡ None → Fails s at (junction ∷ []) at
+  not_junction (joins j q a) z = absurd (let y : ◌≡◌ {A = ℕ} 0 1 = cc in omega arith)
+  not_junction (no_junction q f) z = f
 
 module _ (s : List ℕ) (at : ℕ) where
   on_char : (c : ℕ) → At s at c → (n : Need) (ns : List Need) (k : Rest (n ∷ ns)) → scan (drop at s) (n ∷ ns) k at ≡ scan (c ∷ drop (at + 1) s) (n ∷ ns) k at
@@ -85,29 +81,25 @@ module _ (s : List ℕ) (at : ℕ) (h : At s at 38) where
 
 -- what was found asks for a head, from the character before it on
 module _ (s : List ℕ) (at : ℕ) where
-  pub headed_row : (n : Need) (c : ℕ) (r : Row n) → Opens n (rows n c) c r → Right n r → c ≡ r.char → At s at c → (head : Values r.needs → List ℕ) (head' : Value n → List ℕ) → ((vs : Values r.needs) → head vs ≡ head' (r.made vs)) → (h : Headed) → HeadedAt s (at + 1) r.needs head h → HeadedAt s at (n ∷ []) (λ v. head' v.0) h
-  headed_row n c r o g q z head head' same h (by b e p vs x i) = by b e p (r.made vs, tt) (row_passes s at n c r o z g q vs x) (i ∙ same vs)
-  headed_row n c r o g q z head head' same h (unheaded p i f) = unheaded p i (row_fails s at n c r o z p f)
+  pub headed_row : (n : Need) (c : ℕ) (r : Row n) → Opens n (rows n c) c r → Right n r → c ≡ r.char → At s at c → (head : Values r.needs → List ℕ) (head' : Value n → List ℕ) → ((vs : Values r.needs) → head vs ≡ head' (r.made vs)) → (h : Result Headed Fault) → HeadedAt s (at + 1) r.needs head h → HeadedAt s at (n ∷ []) (λ v. head' v.0) h
+  headed_row n c r o g q z head head' same h (by b p vs x i) = by b p (r.made vs, tt) (row_passes s at n c r o z g q vs x) (i ∙ same vs)
+  headed_row n c r o g q z head head' same h (unheaded p i f) = unheaded p i (row_fails s at n c r o z p.place f)
 
-  pub headed_sign : (c : ℕ) (ns : List Need) → At s at c → (head : Values ns → List ℕ) (h : Headed) → HeadedAt s (at + 1) ns head h → HeadedAt s at (sign c ∷ ns) (λ v. head v.1) h
-  headed_sign c ns z head h (by b e p vs x i) = by b e p (tt, vs) (then_passes s (sign c) ns tt vs (sign_passes s z) x) i
-  headed_sign c ns z head h (unheaded p i f) = unheaded p i (then_fails s (sign c) ns tt p (sign_passes s z) f)
+  pub headed_sign : (c : ℕ) (ns : List Need) → At s at c → (head : Values ns → List ℕ) (h : Result Headed Fault) → HeadedAt s (at + 1) ns head h → HeadedAt s at (sign c ∷ ns) (λ v. head v.1) h
+  headed_sign c ns z head h (by b p vs x i) = by b p (tt, vs) (then_passes s (sign c) ns tt vs (sign_passes s z) x) i
+  headed_sign c ns z head h (unheaded p i f) = unheaded p i (then_fails s (sign c) ns tt p.place (sign_passes s z) f)
 
 -- the counts, as they are told
-module _ (s : List ℕ) (at : ℕ) where
-  pub counted_head : (head : Counts → List ℕ) (kind : ℕ) → ((i j : ℕ) → kind ∷ i ∷ j ∷ [] ≡ head (from i j)) → (r : Counted) → CountedAt s at r → (i j e : ℕ) → r ≡ counted-told.Are i j e → HeadedAt s at (counts ∷ []) (λ v. head (from_to v.0)) (headed.By (record { kind = kind; low = i; high = j }) e)
-  counted_head head kind same r (are i' j' e' q x) i j e z =
-      let a : i' ≡ i = cc in
-      let b : j' ≡ j = cc in
-      let c : e' ≡ e = cc in
-      by (record { kind = kind; low = i; high = j }) e refl ((i, j), tt)
-      (subst (λ (n : ℕ). Passes s at (counts ∷ []) ((i, j), tt) n) c (subst (λ (n : ℕ). Passes s at (counts ∷ []) ((i, n), tt) e') b (subst (λ (n : ℕ). Passes s at (counts ∷ []) ((n, j'), tt) e') a x)))
-      (same i j)
-  counted_head head kind same r (no_counts p q f) i j e z = absurd (let y : ◌≡◌ {A = ℕ} 0 1 = cc in omega arith)
+module _ {s : List ℕ} {at : ℕ} {r : Result Counted Fault} where
+  pub counted_head : (head : Counts → List ℕ) (made : ℕ → ℕ → Head) → ((i j : ℕ) → head_bytes (made i j) ≡ head (from i j)) → CountedAt s at r → (c : Counted) → r ≡ Ok c → HeadedAt s at (counts ∷ []) (λ v. head (from_to v.0)) (Ok (record { head = made c.low c.high; end = c.end }))
+  counted_head head made same (are c' q x) c z =
+      let i : c' ≡ c = cc in
+      by _ refl ((c.low, c.high), tt) (subst (λ (d : Counted). Passes s at (counts ∷ []) ((d.low, d.high), tt) d.end) i x) (same c.low c.high)
+  counted_head head made same (no_counts f q g) c z = absurd (let y : ◌≡◌ {A = ℕ} 0 1 = cc in omega arith)
 
-  pub counted_broken : (r : Counted) → CountedAt s at r → (p : ℕ) → r ≡ counted-told.Broken p → Fails s at (counts ∷ []) p
-  counted_broken r (are i j e q x) p z = absurd (let y : ◌≡◌ {A = ℕ} 0 1 = cc in omega arith)
-  counted_broken r (no_counts p' q f) p z = subst (λ (n : ℕ). Fails s at (counts ∷ []) n) (let y : p' ≡ p = cc in y) f
+  pub counted_broken : CountedAt s at r → (f : Fault) → r ≡ Err f → Fails s at (counts ∷ []) f.place
+  counted_broken (are c q x) f z = absurd (let y : ◌≡◌ {A = ℕ} 0 1 = cc in omega arith)
+  counted_broken (no_counts f' q g) f z = subst (λ (h : Fault). Fails s at (counts ∷ []) h.place) (let i : f' ≡ f = cc in i) g
 
 -- what follows "[*"
 module _ (s : List ℕ) (at : ℕ) where
@@ -118,36 +110,36 @@ module _ (s : List ℕ) (at : ℕ) where
       go (no h) = let l : length s ≤ at = omega arith in rw (drop_of_length-le s l) refl
       go (yes h) = no_bracket (drop at s) (get_or s at 0) (drop (suc at) s) (drop-cons s at 0 h) (ne_eqb _ _ (λ e. x (record { inside = h; char = e }))) ns k at
 
-  pub star_closed : (h : Head) → head_bytes h ≡ plain_head 0x17 → At s at 93 → StarAt s at (headed.By h (at + 1))
+  pub star_closed : At s at 93 → StarAt s at (Ok (record { head = head-of.Again Star; end = at + 1 }))
   unfolding rows
-  star_closed h q x = by h (at + 1) refl (uncounted, tt) (row_passes s at star 93 (row 93 [] (λ v. uncounted)) (λ on ns k p other. refl) x (rights star 93).0 refl tt (record { small = tt; part = no_part s (at + 1) (let l = x.inside in omega arith); over = λ ms k. refl })) q
+  star_closed x = by _ refl (uncounted, tt) (row_passes s at star 93 (row 93 [] (λ v. uncounted)) (λ on ns k p other. refl) x (rights star 93).0 refl tt (record { small = tt; part = no_part s (at + 1) (let l = x.inside in omega arith); over = λ ms k. refl })) refl
 
-  pub star_counted : (At s at 93 → ⊥) → (h : Headed) → HeadedAt s at (counts ∷ []) (λ v. 0x19 ∷ v.0.0 ∷ v.0.1 ∷ []) h → StarAt s at h
-  star_counted n h (by b e p vs x i) = by b e p (from_to vs.0, tt) (record { small = (x.small.0.2, tt); part = x.part; over = λ ms k. star_on n ms k ∙ x.over ms (λ v. k (from_to v)) }) i
+  pub star_counted : (At s at 93 → ⊥) → (h : Result Headed Fault) → HeadedAt s at (counts ∷ []) (λ v. 0x19 ∷ v.0.0 ∷ v.0.1 ∷ []) h → StarAt s at h
+  star_counted n h (by b p vs x i) = by b p (from_to vs.0, tt) (record { small = (x.small.0.2, tt); part = x.part; over = λ ms k. star_on n ms k ∙ x.over ms (λ v. k (from_to v)) }) i
   star_counted n h (unheaded p i f) = unheaded p i (λ ms k. star_on n ms k ∙ f ms (λ v. k (from_to v)))
 
 -- what follows "}"
 module _ (s : List ℕ) (at : ℕ) where
-  pub no_open : (At s at 91 → ⊥) → BracketAt s at (headed.Broken at)
-  no_open x = unheaded at refl (first_fails s at (sign 91) (bracket ∷ []) at (other_sign s at 91 x))
+  pub no_open : (At s at 91 → ⊥) → BracketAt s at (Err (record { place = at }))
+  no_open x = unheaded _ refl (first_fails s at (sign 91) (bracket ∷ []) at (other_sign s at 91 x))
 
   module _ (o : At s at 91) where
-    pub by_star : At s (at + 1) 42 → (h : Headed) → StarAt s (at + 1 + 1) h → BracketAt s at h
+    pub by_star : At s (at + 1) 42 → (h : Result Headed Fault) → StarAt s (at + 1 + 1) h → BracketAt s at h
     unfolding rows
     by_star x h y = headed_sign s at 91 (bracket ∷ []) o (λ v. bracket_head v.0) h (headed_row s (at + 1) bracket 42 (row 42 (star ∷ []) (λ v. starred v.0)) (λ on ns k p other. refl) (rights bracket 42).0 refl x (λ v. bracket_head (starred v.0)) bracket_head (λ v. refl) h y)
 
-    pub no_repetition : (At s (at + 1) 42 → ⊥) → (At s (at + 1) 43 → ⊥) → BracketAt s at (headed.Broken (at + 1))
+    pub no_repetition : (At s (at + 1) 42 → ⊥) → (At s (at + 1) 43 → ⊥) → BracketAt s at (Err (record { place = at + 1 }))
     unfolding rows
-    no_repetition x y = unheaded (at + 1) refl (then_fails s (sign 91) (bracket ∷ []) tt (at + 1) (sign_passes s o) (absent s bracket refl (at + 1) (x, (y, tt))))
+    no_repetition x y = unheaded _ refl (then_fails s (sign 91) (bracket ∷ []) tt (at + 1) (sign_passes s o) (absent s bracket refl (at + 1) (x, (y, tt))))
 
     module _ (x : At s (at + 1) 43) where
-      pub plus_open : (At s (at + 1 + 1) 93 → ⊥) → BracketAt s at (headed.Broken (at + 1 + 1))
+      pub plus_open : (At s (at + 1 + 1) 93 → ⊥) → BracketAt s at (Err (record { place = at + 1 + 1 }))
       unfolding rows
-      plus_open n = unheaded (at + 1 + 1) refl (then_fails s (sign 91) (bracket ∷ []) tt (at + 1 + 1) (sign_passes s o) (row_fails s (at + 1) bracket 43 (row 43 (sign 93 ∷ []) (λ v. plus)) (λ on ns k p other. refl) x (at + 1 + 1) (other_sign s (at + 1 + 1) 93 n)))
+      plus_open n = unheaded _ refl (then_fails s (sign 91) (bracket ∷ []) tt (at + 1 + 1) (sign_passes s o) (row_fails s (at + 1) bracket 43 (row 43 (sign 93 ∷ []) (λ v. plus)) (λ on ns k p other. refl) x (at + 1 + 1) (other_sign s (at + 1 + 1) 93 n)))
 
-      pub plus_closed : (h : Head) → head_bytes h ≡ plain_head 0x18 → At s (at + 1 + 1) 93 → BracketAt s at (headed.By h (at + 1 + 1 + 1))
+      pub plus_closed : At s (at + 1 + 1) 93 → BracketAt s at (Ok (record { head = head-of.Again Plus; end = at + 1 + 1 + 1 }))
       unfolding rows
-      plus_closed h q z = by h (at + 1 + 1 + 1) refl (tt, (plus, tt)) (then_passes s (sign 91) (bracket ∷ []) tt (plus, tt) (sign_passes s o) (row_passes s (at + 1) bracket 43 (row 43 (sign 93 ∷ []) (λ v. plus)) (λ on ns k p other. refl) x (rights bracket 43).1.0 refl (tt, tt) (sign_passes s z))) q
+      plus_closed z = by _ refl (tt, (plus, tt)) (then_passes s (sign 91) (bracket ∷ []) tt (plus, tt) (sign_passes s o) (row_passes s (at + 1) bracket 43 (row 43 (sign 93 ∷ []) (λ v. plus)) (λ on ns k p other. refl) x (rights bracket 43).1.0 refl (tt, tt) (sign_passes s z))) refl
 
 -- what may follow a formula that stands as a rule
 module _ (s : List ℕ) (at : ℕ) where
@@ -158,20 +150,43 @@ module _ (s : List ℕ) (at : ℕ) where
       go (no h) = let l : length s ≤ at = omega arith in subst Free (sym (drop_of_length-le s l)) tt
       go (yes h) = subst Free (sym (drop-cons s at 0 h)) (ne_eqb _ _ (λ e. x (record { inside = h; char = e })))
 
-  pub no_occurrence : (h : Head) → head_bytes h ≡ plain_head 0x10 → at ≤ length s → (At s at 91 → ⊥) → OccurrenceAt s at (headed.By h at)
-  no_occurrence h q l x = by h at refl (uncounted, tt) (record { small = (tt, tt); part = no_part s at l; over = λ ms k. over_none (drop at s) (free_at x) ms k at }) q
+  pub no_occurrence : at ≤ length s → (At s at 91 → ⊥) → OccurrenceAt s at (Ok (record { head = head-of.Letter; end = at }))
+  no_occurrence l x = by _ refl (uncounted, tt) (record { small = (tt, tt); part = no_part s at l; over = λ ms k. over_none (drop at s) (free_at x) ms k at }) refl
 
   module _ (o : At s at 91) where
-    pub no_equals : (At s (at + 1) 61 → ⊥) → OccurrenceAt s at (headed.Broken (at + 1))
+    pub no_equals : (At s (at + 1) 61 → ⊥) → OccurrenceAt s at (Err (record { place = at + 1 }))
     unfolding rows
-    no_equals x = unheaded (at + 1) refl (row_fails s at occurrence 91 (row 91 (sign 61 ∷ counts ∷ []) (λ v. from_to v.1.0)) (λ on ns k p other. refl) o (at + 1) (first_fails s (at + 1) (sign 61) (counts ∷ []) (at + 1) (other_sign s (at + 1) 61 x)))
+    no_equals x = unheaded _ refl (row_fails s at occurrence 91 (row 91 (sign 61 ∷ counts ∷ []) (λ v. from_to v.1.0)) (λ on ns k p other. refl) o (at + 1) (first_fails s (at + 1) (sign 61) (counts ∷ []) (at + 1) (other_sign s (at + 1) 61 x)))
 
-    pub by_equals : At s (at + 1) 61 → (h : Headed) → HeadedAt s (at + 1 + 1) (counts ∷ []) (λ v. 0x1A ∷ v.0.0 ∷ v.0.1 ∷ []) h → OccurrenceAt s at h
+    pub by_equals : At s (at + 1) 61 → (h : Result Headed Fault) → HeadedAt s (at + 1 + 1) (counts ∷ []) (λ v. 0x1A ∷ v.0.0 ∷ v.0.1 ∷ []) h → OccurrenceAt s at h
     unfolding rows
     by_equals x h y = headed_row s at occurrence 91 (row 91 (sign 61 ∷ counts ∷ []) (λ v. from_to v.1.0)) (λ on ns k p other. refl) (rights occurrence 91).0 refl o (λ v. 0x1A ∷ v.1.0.0 ∷ v.1.0.1 ∷ []) standing_head (λ v. refl) h (headed_sign s (at + 1) 61 (counts ∷ []) x (λ v. 0x1A ∷ v.0.0 ∷ v.0.1 ∷ []) h y)
 
--- which operator was found
-pub as_operator : (s : List ℕ) (at : ℕ) (r : Sign) → SignAt s at r → (kind e : ℕ) → r ≡ signed.Operator kind e → (p : Pair) × (kind ≡ pair_byte p) × Operator s at p e
-as_operator s at r (operator p k e' q i o) kind e z = let a : k ≡ kind = cc in let b : e' ≡ e = cc in (p, sym a ∙ i, subst (λ (n : ℕ). Operator s at p n) b o)
-as_operator s at r (repetition h q x y) kind e z = absurd (let i : ◌≡◌ {A = ℕ} 0 1 = cc in omega arith)
-as_operator s at r (no_sign q f) kind e z = absurd (let i : ◌≡◌ {A = ℕ} 0 1 = cc in omega arith)
+-- what stands there begins with the brace that closes a repetition
+module _ {s : List ℕ} {at : ℕ} (z : At s at 125) where
+  pub repeats : {r : Result Headed Fault} → BracketAt s (at + 1) r → (h : Headed) → r ≡ Ok h → SignAt s at (Ok (signed.Repetition h))
+  repeats x h q = repetition h refl z (subst (BracketAt s (at + 1)) q x)
+
+  pub no_repeat : {r : Result Headed Fault} → BracketAt s (at + 1) r → (f : Fault) → r ≡ Err f → SignAt s at (Err f)
+  unfolding rows
+  no_repeat (by h p vs x i) f q = absurd (let y : ◌≡◌ {A = ℕ} 0 1 = cc in omega arith)
+  no_repeat (unheaded f' p x) f q =
+      let i : f' ≡ f = cc in
+      no_sign f refl (row_fails s at tail 125 (row 125 (sign 91 ∷ bracket ∷ []) (λ v. repeated v.1.0)) (λ on ns k p other. refl) z f.place (subst (λ (h : Fault). Fails s (at + 1) (sign 91 ∷ bracket ∷ []) h.place) i x))
+
+-- which sign was found
+module _ {s : List ℕ} {at : ℕ} {r : Result Sign Fault} where
+  pub as_operator : SignAt s at r → (p : Pair) (e : ℕ) → r ≡ Ok (signed.Operator p e) → Operator s at p e
+  as_operator (operator p' e' q o) p e z = let a : p' ≡ p = cc in let b : e' ≡ e = cc in subst (λ (m : Pair). Operator s at m e) a (subst (λ (n : ℕ). Operator s at p' n) b o)
+  as_operator (repetition h q x y) p e z = absurd (let i : ◌≡◌ {A = ℕ} 0 1 = cc in omega arith)
+  as_operator (no_sign f q x) p e z = absurd (let i : ◌≡◌ {A = ℕ} 0 1 = cc in omega arith)
+
+  pub as_repetition : SignAt s at r → (h : Headed) → r ≡ Ok (signed.Repetition h) → At s at 125 × BracketAt s (at + 1) (Ok h)
+  as_repetition (operator p e q o) h z = absurd (let i : ◌≡◌ {A = ℕ} 0 1 = cc in omega arith)
+  as_repetition (repetition h' q x y) h z = let i : h' ≡ h = cc in (x, subst (λ (g : Headed). BracketAt s (at + 1) (Ok g)) i y)
+  as_repetition (no_sign f q x) h z = absurd (let i : ◌≡◌ {A = ℕ} 0 1 = cc in omega arith)
+
+  pub as_no_sign : SignAt s at r → (f : Fault) → r ≡ Err f → Fails s at (tail ∷ []) f.place
+  as_no_sign (operator p e q o) f z = absurd (let i : ◌≡◌ {A = ℕ} 0 1 = cc in omega arith)
+  as_no_sign (repetition h q x y) f z = absurd (let i : ◌≡◌ {A = ℕ} 0 1 = cc in omega arith)
+  as_no_sign (no_sign f' q x) f z = let i : f' ≡ f = cc in subst (λ (g : Fault). Fails s at (tail ∷ []) g.place) i x

@@ -8,11 +8,11 @@ use mathlib.Core.List.{List, [], ◌∷◌, ◌++◌}
 use lib.ListN.{length, get_or, drop, drop_of_length-le}
 use lib.Seq.{drop-cons}
 use Rattle.definitions.specs.Encoding.{largest_count}
+use Rattle.std.specs.Prelude.{Option, Some, None, Result, Ok, Err}
+use Rattle.grammar.specs.declared.words.Fault.{Fault}
 use Rattle.grammar.specs.declared.counts.Counted.{Counted}
-use Rattle.grammar.specs.declared.counts.Counted.TheVariants as counted-told
 use Rattle.grammar.specs.declared.counts.Number.{Number}
-use Rattle.grammar.specs.declared.counts.Number.TheVariants.{Is, Broken}
-use Rattle.grammar.specs.inner.Reading.{Which, low, high, Digits, all, rest, number, sign, Values, Rest, stop, others, more, digit_to, broken, scan}
+use Rattle.grammar.specs.inner.Reading.{Which, low, high, Digits, all, rest, number, counts, sign, Values, Rest, stop, others, more, digit_to, scan}
 use Rattle.grammar.specs.inner.Values.{digits, texts}
 use Rattle.grammar.specs.inner.Places.{At, Part, Fails, Passes, DigitAt, a_digit, no_digit, IsNumber, NumberAt, is, no_number, HighAt, is_high, not_high, CountedAt, are, no_counts}
 use Rattle.grammar.proofs.Numbers.{one_digit, two_digits, others_of, begun_of, one_alone}
@@ -23,18 +23,14 @@ use Rattle.grammar.proofs.Standing.{ended, seen, other_sign, no_part, char_part,
 use Rattle.grammar.proofs.Passing.{given_feed, alone, sign_passes, then_passes, then_fails}
 
 -- which digit was found
-module _ (s : List ℕ) (at d : ℕ) where
-  pub is_digit : DigitAt s at d → d ≤ 9 → At s at (48 + d)
-  is_digit (a_digit l x) h = x
-  is_digit (no_digit q f) h = absurd (omega arith)
+module _ {s : List ℕ} {at last : ℕ} {r : Option ℕ} where
+  pub is_digit : DigitAt s at last r → (d : ℕ) → r ≡ Some d → (d ≤ last) × At s at (48 + d)
+  is_digit (a_digit d' q l x) d e = let i : d' ≡ d = cc in (omega arith, subst (λ (n : ℕ). At s at (48 + n)) i x)
+  is_digit (no_digit q f) d e = absurd (let z : ◌≡◌ {A = ℕ} 0 1 = cc in omega arith)
 
-  pub is_none : DigitAt s at d → d ≡ 10 → (c : ℕ) → 48 ≤ c → c ≤ 57 → At s at c → ⊥
-  is_none (a_digit l x) e = absurd (omega arith)
+  pub is_none : DigitAt s at last r → r ≡ None → (c : ℕ) → 48 ≤ c → c ≤ 48 + last → At s at c → ⊥
+  is_none (a_digit d q l x) e = absurd (let z : ◌≡◌ {A = ℕ} 0 1 = cc in omega arith)
   is_none (no_digit q f) e = f
-
-  pub at_most : DigitAt s at d → d ≤ 10
-  at_most (a_digit l x) = omega arith
-  at_most (no_digit q f) = omega arith
 
 -- no digit stands there
 away : (last c : ℕ) → (48 ≤ c → c ≤ last → ⊥) → digit_to last c ≡ false
@@ -46,16 +42,12 @@ away last c f = go (dec_lt c 48) (dec_lt last c)
     go (no h) (no l) = absurd (f (omega arith) (omega arith))
 
 module _ (s : List ℕ) (at : ℕ) where
-  stops_at : ((c : ℕ) → 48 ≤ c → c ≤ 53 → At s at c → ⊥) → Stops (drop at s)
+  pub stops_at : ((c : ℕ) → 48 ≤ c → c ≤ 53 → At s at c → ⊥) → Stops (drop at s)
   stops_at f = go (dec_lt at (length s))
     where
       go : Dec (at < length s) → Stops (drop at s)
       go (no h) = let l : length s ≤ at = omega arith in subst Stops (sym (drop_of_length-le s l)) tt
       go (yes h) = subst Stops (sym (drop-cons s at 0 h)) (away 53 (get_or s at 0) (λ l u. f (get_or s at 0) l u (record { inside = h; char = refl })))
-
-  pub past_second : (d : ℕ) → DigitAt s at d → 5 < d → Stops (drop at s)
-  past_second d (a_digit l x) h = stops_at (λ c a b y. let e = x.char in let e' = y.char in omega arith)
-  past_second d (no_digit q f) h = stops_at (λ c a b y. f c a (omega arith) y)
 
   module _ (least : ℕ) (small : least ≤ largest_count) where
     -- the first digit
@@ -80,16 +72,16 @@ module _ (s : List ℕ) (at : ℕ) where
             ∙ not_a_digit w (largest_count - least) (get_or s at 0) (drop (suc at) s) ms (away 57 (get_or s at 0) (λ l u. f (get_or s at 0) l u (record { inside = h; char = refl }))) (λ e. f (get_or s at 0) (omega arith) (omega arith) (record { inside = h; char = refl })) k at
 
     -- a "1" and what follows it
-    pub one_and : At s at 49 → (r : Number) → NumberAt s (at + 1) rest least r → NumberAt s at all least r
-    one_and h r (is v e q x) = is v e q (record {
+    pub one_and : At s at 49 → (r : Result Number Fault) → NumberAt s (at + 1) rest least r → NumberAt s at all least r
+    one_and h r (is n q x) = is n q (record {
       begun = tt;
       fits = x.fits;
-      part = subst (λ (t : List ℕ). Part s at t e) (sym x.begun) (parts s (49 ∷ []) (digits rest v) (char_part s h) x.part);
+      part = subst (λ (t : List ℕ). Part s at t n.end) (sym x.begun) (parts s (49 ∷ []) (digits rest n.value) (char_part s h) x.part);
       on = λ w ns k.
           ap (λ (t : List ℕ). scan t (number all w (largest_count - least) ∷ ns) k at) (seen s h)
           ∙ by_one w (largest_count - least) 0 (drop (at + 1) s) ns k at
           ∙ x.on w ns k
-          ∙ same_followed w (largest_count - least) v ns k (drop e s) e;
+          ∙ same_followed w (largest_count - least) n.value ns k (drop n.end s) n.end;
     })
     one_and h r (no_number p q f) = no_number p q (λ w ms k.
         ap (λ (t : List ℕ). scan t (number all w (largest_count - least) ∷ ms) k at) (seen s h)
@@ -136,33 +128,27 @@ module _ (s : List ℕ) (at : ℕ) (d : Digits) (least v e : ℕ) (x : IsNumber 
   number_fails p f ms k = x.on w ms k ∙ f ms (followed d w (largest_count - least) v ms k)
 
 -- the answer's variant is known
-is_broken : (v e p : ℕ) → Is v e ≡ Broken p → ⊥
-is_broken v e p q = let z : ◌≡◌ {A = ℕ} 0 1 = cc in omega arith
+module _ {s : List ℕ} {at : ℕ} {d : Digits} {least : ℕ} {r : Result Number Fault} where
+  pub as_number : NumberAt s at d least r → (n : Number) → r ≡ Ok n → IsNumber s at d least n.value n.end
+  as_number (is n' q x) n z = let i : n' ≡ n = cc in subst (λ (m : Number). IsNumber s at d least m.value m.end) i x
+  as_number (no_number f q g) n z = absurd (let y : ◌≡◌ {A = ℕ} 0 1 = cc in omega arith)
 
-module _ {s : List ℕ} {at : ℕ} {d : Digits} {least : ℕ} {r : Number} where
-  pub as_number : NumberAt s at d least r → (v e : ℕ) → r ≡ Is v e → IsNumber s at d least v e
-  as_number (is v' e' q x) v e z =
-      let i : v' ≡ v = cc in
-      let j : e' ≡ e = cc in
-      subst (λ (n : ℕ). IsNumber s at d least v n) j (subst (λ (n : ℕ). IsNumber s at d least n e') i x)
-  as_number (no_number p q f) v e z = absurd (is_broken v e p (sym z ∙ q))
-
-  pub as_no_number : NumberAt s at d least r → (p : ℕ) → r ≡ Broken p → (w : Which) → Fails s at (number d w (largest_count - least) ∷ []) p
-  as_no_number (is v e q x) p z = absurd (is_broken v e p (sym q ∙ z))
-  as_no_number (no_number p' q f) p z = let i : p' ≡ p = cc in λ w ms k. f w ms k ∙ ap broken i
+  pub as_no_number : NumberAt s at d least r → (f : Fault) → r ≡ Err f → (w : Which) → Fails s at (number d w (largest_count - least) ∷ []) f.place
+  as_no_number (is n q x) f z = absurd (let y : ◌≡◌ {A = ℕ} 0 1 = cc in omega arith)
+  as_no_number (no_number f' q g) f z = let i : f' ≡ f = cc in subst (λ (h : Fault). (w : Which) → Fails s at (number d w (largest_count - least) ∷ []) h.place) i g
 
 -- the second count, and what closes it
 module _ (s : List ℕ) (at i j e : ℕ) (x : IsNumber s at all i j e) where
-  pub high_open : (At s e 93 → ⊥) → HighAt s at i (counted-told.Broken e)
-  high_open n = not_high e refl (number_fails s at all i j e x high e (other_sign s e 93 n))
+  pub high_open : (At s e 93 → ⊥) → HighAt s at i (Err (record { place = e }))
+  high_open n = not_high _ refl (number_fails s at all i j e x high e (other_sign s e 93 n))
 
-  pub high_closed : At s e 93 → HighAt s at i (counted-told.Are i j (e + 1))
-  high_closed h = is_high j (e + 1) refl (number_passes s at all i j e x high tt (sign_passes s h))
+  pub high_closed : At s e 93 → HighAt s at i (Ok (record { low = i; high = j; end = e + 1 }))
+  high_closed h = is_high _ refl refl (number_passes s at all i j e x high tt (sign_passes s h))
 
 -- both counts
 module _ (s : List ℕ) (at i e : ℕ) (x : IsNumber s at all 0 i e) where
-  pub dots_broken : (p : ℕ) → Fails s e (sign 46 ∷ sign 46 ∷ []) p → CountedAt s at (counted-told.Broken p)
-  dots_broken p f = no_counts p refl (number_fails s at all 0 i e x low p (λ ms k. f (number all high (largest_count - i) ∷ ms) k))
+  pub dots_broken : (f : Fault) → Fails s e (sign 46 ∷ sign 46 ∷ []) f.place → CountedAt s at (Err f)
+  dots_broken p f = no_counts p refl (number_fails s at all 0 i e x low p.place (λ ms k. f (number all high (largest_count - i) ∷ ms) k))
 
   module _ (m : ℕ) (d : Part s e (46 ∷ 46 ∷ []) m) where
     dot : At s e 46
@@ -184,6 +170,7 @@ module _ (s : List ℕ) (at i e : ℕ) (x : IsNumber s at all 0 i e) where
         then_fails s (sign 46) (sign 46 ∷ number all high (largest_count - i) ∷ []) tt p (sign_passes s dot)
         (then_fails s (sign 46) (number all high (largest_count - i) ∷ []) tt p (sign_passes s second_dot) (subst (λ (n : ℕ). Fails s n (number all high (largest_count - i) ∷ []) p) dots_end f))
 
-    pub both_counts : (r : Counted) → HighAt s m i r → CountedAt s at r
-    both_counts r (is_high j end q y) = are i j end q (number_passes s at all 0 i e x low (tt, ((j, tt), tt)) (after_dots j end y))
-    both_counts r (not_high p q f) = no_counts p q (number_fails s at all 0 i e x low p (no_second p f))
+    pub both_counts : (r : Result Counted Fault) → HighAt s m i r → CountedAt s at r
+    both_counts r (is_high c q same y) =
+        are c q (subst (λ (n : ℕ). Passes s at (counts ∷ []) ((n, c.high), tt) c.end) (sym same) (number_passes s at all 0 i e x low (tt, ((c.high, tt), tt)) (after_dots c.high c.end y)))
+    both_counts r (not_high p q f) = no_counts p q (number_fails s at all 0 i e x low p.place (no_second p.place f))

@@ -4,9 +4,9 @@ ghost use Rattle.definitions.specs.Encoding.{largest_count};
 ghost use Rattle.grammar.specs.inner.Reading.{all, rest};
 ghost use Rattle.grammar.specs.inner.Places.{DigitAt, NumberAt, HighAt, CountedAt};
 
-use crate::words::{Ended, stands, word_end};
+use crate::words::{Fault, stands, word_end};
 
-const NO_DIGIT: u8 = 10;
+const LAST_DIGIT: u8 = 9;
 
 const ONE: u8 = 1;
 
@@ -17,109 +17,101 @@ const LAST_SECOND: u8 = 5;
 
 const DOTS: [u8; 2] = *b"..";
 
-// A count and the place after it, or the first fault.
-#[derive(Drop)]
-pub enum Number {
-    Is { value: u8, end: usize },
-    Broken(usize),
+// A count and the place after it.
+#[derive(Clone, Copy, Debug, PartialEq, Eq)]
+pub struct Number {
+    pub value: u8,
+    pub end: usize,
 }
 
-// The counts and the place after what closes them, or the first fault.
-#[derive(Drop)]
-pub enum Counted {
-    Are { low: u8, high: u8, end: usize },
-    Broken(usize),
+// Both counts and the place after what closes them.
+#[derive(Clone, Copy, Debug, PartialEq, Eq)]
+pub struct Counted {
+    pub low: u8,
+    pub high: u8,
+    pub end: usize,
 }
 
-// The digit at `at`.
-fn digit_at(text: &[u8], at: usize) -> u8
-    ensures { DigitAt text.now at result }
+// The digit at `at`, if one stands there that is at most `last`.
+pub fn digit_at(text: &[u8], at: usize, last: u8) -> Option<u8>
+    ensures { DigitAt text.now at last result }
 {
     if text.len() <= at {
-        return NO_DIGIT;
+        return None;
     }
     let char = text[at];
     if char < b'0' {
-        return NO_DIGIT;
+        return None;
     }
-    if b'9' < char {
-        return NO_DIGIT;
+    let digit = char - b'0';
+    if last < digit {
+        return None;
     }
-    char - b'0'
+    Some(digit)
 }
 
 // What follows a first digit 1: a second digit, if one stands there that a count can have; otherwise the count is 1.
-fn teen_at(text: &[u8], at: usize, least: u8) -> Number
+fn teen_at(text: &[u8], at: usize, least: u8) -> Result<Number, Fault>
     requires { (at ≤ length text.now) × (least ≤ largest_count) }
     ensures { NumberAt text.now at rest least result }
 {
-    let second = digit_at(text, at);
-    if LAST_SECOND < second {
+    let Some(second) = digit_at(text, at, LAST_SECOND) else {
         if ONE < least {
-            return Number::Broken(at);
+            return Err(Fault { place: at });
         }
-        return Number::Is {
+        return Ok(Number {
             value: ONE,
             end: at,
-        };
-    }
+        });
+    };
     let value = TEN + second;
     if value < least {
-        return Number::Broken(at);
+        return Err(Fault { place: at });
     }
-    Number::Is { value, end: at + 1 }
+    Ok(Number { value, end: at + 1 })
 }
 
 // A count that is no less than `least`. Its characters are taken as far as some such count has them.
-fn number_at(text: &[u8], at: usize, least: u8) -> Number
+fn number_at(text: &[u8], at: usize, least: u8) -> Result<Number, Fault>
     requires { least ≤ largest_count }
     ensures { NumberAt text.now at all least result }
 {
-    let first = digit_at(text, at);
-    if first == NO_DIGIT {
-        return Number::Broken(at);
-    }
+    let Some(first) = digit_at(text, at, LAST_DIGIT) else {
+        return Err(Fault { place: at });
+    };
     if first == ONE {
         return teen_at(text, at + 1, least);
     }
     if first < least {
-        return Number::Broken(at);
+        return Err(Fault { place: at });
     }
-    Number::Is {
+    Ok(Number {
         value: first,
         end: at + 1,
-    }
+    })
 }
 
 // The second count, which is no less than the first, and what closes it.
-fn high_at(text: &[u8], at: usize, low: u8) -> Counted
+fn high_at(text: &[u8], at: usize, low: u8) -> Result<Counted, Fault>
     requires { low ≤ largest_count }
     ensures { HighAt text.now at low result }
 {
-    match number_at(text, at, low) {
-        Number::Broken(p) => Counted::Broken(p),
-        Number::Is { value, end } => {
-            if !stands(text, end, b']') {
-                return Counted::Broken(end);
-            }
-            Counted::Are {
-                low,
-                high: value,
-                end: end + 1,
-            }
-        }
+    let high = number_at(text, at, low)?;
+    if !stands(text, high.end, b']') {
+        return Err(Fault { place: high.end });
     }
+    Ok(Counted {
+        low,
+        high: high.value,
+        end: high.end + 1,
+    })
 }
 
 // Both counts and what closes them.
-pub fn counts_at(text: &[u8], at: usize) -> Counted
+pub fn counts_at(text: &[u8], at: usize) -> Result<Counted, Fault>
     ensures { CountedAt text.now at result }
 {
-    match number_at(text, at, 0) {
-        Number::Broken(p) => Counted::Broken(p),
-        Number::Is { value, end } => match word_end(text, end, &DOTS) {
-            Ended::Broken(p) => Counted::Broken(p),
-            Ended::Ends(second) => high_at(text, second, value),
-        },
-    }
+    let low = number_at(text, at, 0)?;
+    let second = word_end(text, low.end, &DOTS)?;
+    high_at(text, second, low.value)
 }

@@ -3,11 +3,10 @@ ghost use Rattle.std.specs.Prelude.{◌≤◌, length};
 ghost use Rattle.bits.specs.Says.{Says};
 ghost use Rattle.grammar.specs.inner.Places.{At, WordEnds};
 
-// The place after what stands there, or the first place where it does not.
-#[derive(Drop)]
-pub enum Ended {
-    Ends(usize),
-    Broken(usize),
+// The first place where what is wanted does not stand.
+#[derive(Clone, Copy, Debug, PartialEq, Eq)]
+pub struct Fault {
+    pub place: usize,
 }
 
 // Whether the character stands at `at`.
@@ -20,19 +19,15 @@ pub fn stands(text: &[u8], at: usize, char: u8) -> bool
     text[at] == char
 }
 
-// The characters of `word`, one after another.
-pub fn word_end(text: &[u8], at: usize, word: &[u8]) -> Ended
+// The place after the characters of `word`, one after another.
+pub fn word_end(text: &[u8], at: usize, word: &[u8]) -> Result<usize, Fault>
     requires { at ≤ length text.now }
     ensures { WordEnds text.now at word.now result }
 {
-    let mut end = at;
-    let mut i = 0;
-    while i < word.len() {
-        if !stands(text, end, word[i]) {
-            return Ended::Broken(end);
+    for i in 0..word.len() {
+        if !stands(text, at + i, word[i]) {
+            return Err(Fault { place: at + i });
         }
-        end += 1;
-        i += 1;
     }
-    Ended::Ends(end)
+    Ok(at + word.len())
 }

@@ -6,8 +6,7 @@ use mathlib.Core.List.{List}
 use lib.ListN.{length}
 use Rattle.rules.specs.declared.Known.{Known}
 use Rattle.definitions.specs.declared.Refusal.{Refusal}
-use Rattle.rules.specs.declared.RuleAnswer.{RuleAnswer}
-use Rattle.rules.specs.declared.RuleAnswer.TheVariants.{Accepted, Refused}
+use Rattle.std.specs.Prelude.{Ok, Err}
 use Rattle.definitions.specs.Definition1.{Rule}
 use Rattle.definitions.specs.Refusals.{number, place}
 use Rattle.definitions.specs.Numbers.{bad_letter_number, too_many_letters_number}
@@ -18,12 +17,12 @@ use Rattle.judge.specs.Parts.{letter_limit, Few}
 use Rattle.judge.specs.inner.Judging.{AcceptsAs}
 use Rattle.judge.specs.Verdict.{judged, refused, LettersTo, StrayAt, JudgeRight, rule_refused, too_many, no_letter, decided}
 
-module _ (s w : List ℕ) (a : RuleAnswer) (read : rules.told a ≡ answer s) where
+module _ (s w : List ℕ) (a : rules.RuleAnswer) (read : rules.told a ≡ answer s) where
   -- the reader's refusal
-  pub right_refusal : (x : Refusal) → a ≡ Refused x → JudgeRight s w (refused (number x) (place x))
+  pub right_refusal : (x : Refusal) → a ≡ Err x → JudgeRight s w (refused (number x) (place x))
   right_refusal x q = rule_refused (sym read ∙ ap rules.told q)
 
-  module _ (k : Known) (q : a ≡ Accepted k) where
+  module _ (k : Known) (q : a ≡ Ok k) where
     -- the rule that the reader accepted
     pub read_as : (r : Rule) × AcceptedAs s r × (k ≡ known_of r)
     read_as = accepted_rule s k (sym read ∙ ap rules.told q)

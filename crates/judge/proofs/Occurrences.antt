@@ -8,6 +8,8 @@ use lib.Dec.{leb}
 use lib.ListN.{length, get_or}
 use borrow.Author.Tests.{lt-leb}
 use lib.Seq.{slice_empty}
+use Rattle.std.specs.List.{count_by, range_with_len}
+use Rattle.std.proofs.lemmas.List.Sums.{sum_by-cons}
 use Rattle.bits.specs.Says.{Says}
 use Rattle.bits.specs.Word.{num, many}
 use Rattle.bits.proofs.Laws.{many_ext}
@@ -16,51 +18,28 @@ use Rattle.definitions.specs.declared.counts.Counts.{Counts}
 use Rattle.definitions.specs.Definition1.{Formula, occurs}
 use Rattle.definitions.specs.Definition2.{holds, satisfying, Sat}
 use Rattle.judge.specs.Parts.{Few, part, yes, Judged, Filled}
-use Rattle.judge.specs.inner.Cut.{LetterAt, letters_at_of, CountedOn, OccursAt}
+use Rattle.judge.specs.inner.Cut.{LetterAt, letters_at_of, OccursAt}
 use Rattle.judge.proofs.Meaning.{part_split, part_one, by_cell}
 
--- ---- the loop
+-- ---- the count
 
--- the letters from i up to k
-pub record CountedTo (a : List ℕ) (i e k n : ℕ) : Type 0 where
-  pub from : i ≤ k
-  pub to : k - i ≤ e - i
-  pub few : n ≤ k - i
-  pub is : n ≡ letters_at_of a i k
-
-num_one : (b : Bool) → num b ≤ 1
-num_one true = omega arith
-num_one false = omega arith
-
-pub one_counted : (a : List ℕ) (k n : ℕ) → yes a k (k + 1) ≡ true → CountedOn a k n (n + 1)
-one_counted a k n e = record { is = rw e (omega arith) }
-
-pub none_counted : (a : List ℕ) (k n : ℕ) → yes a k (k + 1) ≡ false → CountedOn a k n n
-none_counted a k n e = record { is = rw e (omega arith) }
-
-pub counted_none : (a : List ℕ) (i e : ℕ) → CountedTo a i e i 0
+-- the first of n, and the others
+many_front : (n : ℕ) (f : ℕ → Bool) → many (suc n) f ≡ num (f 0) + many n (λ k. f (suc k))
 unfolding many
-counted_none a i e = let z : i - i ≡ 0 = omega arith in record { from = omega arith; to = omega arith; few = omega arith; is = rw z }
+many_front zero f = refl
+many_front (suc n) f = let h = many_front n f in omega arith
 
-pub counted_more : (a : List ℕ) (i e k n m : ℕ) → k < e → CountedTo a i e k n → CountedOn a k n m → CountedTo a i e (k + 1) m
+num_cond : (b : Bool) → num b ≡ cond b 1 0
+num_cond true = refl
+num_cond false = refl
+
+pub counted : (f : ℕ → Bool) (a n : ℕ) → count_by f (range_with_len a n) ≡ many n (λ k. f (a + k))
 unfolding many
-counted_more a i e k n m l c o =
-    let f = c.from in
-    let d : k + 1 - i ≡ suc (k - i) = omega arith in
-    let s : i + (k - i) ≡ k = omega arith in
-    let b = num_one (yes a k (k + 1)) in
-    let w = c.few in
-    let q = o.is in
-    let v : num (yes a k (k + 1)) ≡ num (yes a (i + (k - i)) (i + (k - i) + 1)) = ap (λ (j : ℕ). num (yes a j (j + 1))) (sym s) in
-    record {
-      from = omega arith;
-      to = omega arith;
-      few = omega arith;
-      is = o.is ∙ ap₂ (λ (x y : ℕ). x + y) v c.is ∙ ap (λ (j : ℕ). many j (λ k. yes a (i + k) (i + k + 1))) (sym d);
-    }
-
-pub counted_all : (a : List ℕ) (i e k n : ℕ) → e ≤ k → CountedTo a i e k n → n ≡ letters_at_of a i e
-counted_all a i e k n l c = let t = c.to in let d : k - i ≡ e - i = omega arith in c.is ∙ ap (λ (j : ℕ). many j (λ k. yes a (i + k) (i + k + 1))) d
+counted f a zero = refl
+counted f a (suc n) =
+    let on : many n (λ k. f (a + 1 + k)) ≡ many n (λ k. f (a + suc k)) = many_ext n _ _ (λ k l. let e : a + 1 + k ≡ a + suc k = omega arith in ap f e) in
+    let z : num (f (a + 0)) ≡ cond (f a) 1 0 = (let e : a + 0 ≡ a = omega arith in ap (λ (j : ℕ). num (f j)) e) ∙ num_cond (f a) in
+    sum_by-cons (λ k. cond (f k) 1 0) a (range_with_len (a + 1) n) ∙ ap₂ (λ (x y : ℕ). x + y) (sym z) (counted f (a + 1) n ∙ on) ∙ sym (many_front n (λ k. f (a + k)))
 
 -- ---- enough and not too many
 
@@ -73,10 +52,6 @@ module _ (c : Counts) (a : List ℕ) (i e n : ℕ) (is : n ≡ letters_at_of a i
   occurs_few l = said_no (lt-leb c.low n l) (λ o. let h = o.low in omega arith)
 
 -- ---- the letters of a part
-
-num_cond : (b : Bool) → num b ≡ cond b 1 0
-num_cond true = refl
-num_cond false = refl
 
 satisfying_more : (f : ℕ → Bool) (u v : List ℕ) → satisfying f (u ++ v) ≡ satisfying f u + satisfying f v
 satisfying_more f [] v = omega arith

@@ -14,10 +14,9 @@ use Rattle.definitions.specs.Numbers.{bad_letter_number}
 use Rattle.rules.proofs.Once.{told_once, handed_on, handed_on_lem}
 use Rattle.judge.specs.declared.Refusal.{Refusal}
 use Rattle.judge.specs.declared.Refusal.TheVariants.{OfRule, TooManyLetters, BadLetter}
-use Rattle.judge.specs.declared.JudgeAnswer.{JudgeAnswer}
-use Rattle.judge.specs.declared.JudgeAnswer.TheVariants.{Judged, Refused}
+use Rattle.std.specs.Prelude.{Ok, Err}
 use Rattle.judge.specs.Refusals.{number, place}
-use Rattle.judge.specs.Verdict.{Verdict, judged, refused, told, JudgeRight, rule_refused, too_many, no_letter, decided}
+use Rattle.judge.specs.Verdict.{Answer, Verdict, judged, refused, told, JudgeRight, rule_refused, too_many, no_letter, decided}
 use Rattle.bits.proofs.Sayings.{says_once}
 use Rattle.judge.proofs.Strays.{stray_once, no_stray}
 
@@ -56,14 +55,14 @@ named_told (OfRule x) = handed_on_lem OfRule _ x
 named_told TooManyLetters = refl
 named_told (BadLetter i) = refl
 
-abbrev meant : Verdict → JudgeAnswer
-meant (judged b k) = Judged b k
-meant (refused n p) = Refused (named n p)
+abbrev meant : Verdict → Answer
+meant (judged b k) = Ok (record { accepts = b; rule = k })
+meant (refused n p) = Err (named n p)
 
-meant_told : (a : JudgeAnswer) → meant (told a) ≡ a
-meant_told (Judged b k) = refl
-meant_told (Refused x) = ap Refused (named_told x)
+meant_told : (a : Answer) → meant (told a) ≡ a
+meant_told (Ok j) = refl
+meant_told (Err x) = ap Err (named_told x)
 
 -- no second answer fits the promise of `judge`
-pub one_answer : (s w : List ℕ) (a b : JudgeAnswer) → JudgeRight s w (told a) → JudgeRight s w (told b) → a ≡ b
+pub one_answer : (s w : List ℕ) (a b : Answer) → JudgeRight s w (told a) → JudgeRight s w (told b) → a ≡ b
 one_answer s w a b ra rb = told_once told meant meant_told a b (one_verdict s w ra rb)

@@ -1,88 +1,76 @@
--- What the loops that fill the answers know: the cells passed say what they are to say. Assumes nothing.
+-- What fills the answers: rows that say P, by a test, and `[*]` from the last row down. Assumes nothing.
 use mathlib.Core.Path.{◌≡◌, refl, ap, sym, subst, subst⁻¹, ◌∙◌}
-use mathlib.Core.Bool.{Bool, true, false, ◌||◌, or-true, or-false}
+use mathlib.Core.Bool.{Bool, ◌||◌}
 use mathlib.Core.Logic.{⊎_elim, inl, inr, ◌≢◌}
 use mathlib.Core.List.{List}
-use Prim.Native.Nat.{ℕ, ◌+◌, ◌-◌, ◌≤◌, ◌<◌}
+use Prim.Native.Nat.{ℕ, zero, suc, ◌+◌, ◌-◌, ◌≤◌, ◌<◌}
 use native.Mathlib.Nat.{eq-or-lt_of_le}
 use native.Mathlib.Omega.{arith}
+use denote.Param.Members.{Mut}
+use Rattle.std.specs.Fn.{Called}
+use Rattle.std.specs.Array.{IsFromFnResult, IsFromFnResultFrom}
 use lib.Dec.{eqb}
 use lib.ListN.{length, get_or, set, length-set}
 use lib.Seq.{get_or-set_same, get_or-set_other}
-use borrow.Author.Tests.{eq-eqb, ne_eqb, eqb-true, eqb-false}
+use borrow.Author.Tests.{eqb-true, eqb-false}
 use Rattle.bits.specs.Says.{Says}
 use Rattle.bits.specs.Word.{bit, insert}
 use Rattle.bits.proofs.Laws.{bit_zero, bit_insert}
-use Rattle.judge.specs.Parts.{side, yes, RowOf, Filled}
+use Rattle.bits.specs.Those.{ThoseBelow}
+use Rattle.judge.specs.Parts.{side, yes, RowOf, Filled, FilledBy}
 use Rattle.judge.specs.inner.Cut.{StarAt}
-use Rattle.bits.proofs.Sayings.{said_yes, said_no, says_map}
+use Rattle.bits.proofs.Sayings.{said_no, says_map}
 
--- the row's bits below n say P, and it has no others
-pub record RowTo (P : ℕ → Type 0) (row n : ℕ) : Type 0 where
-  pub says : (e : ℕ) → e < n → Says (bit row e) (P e)
-  pub none : (e : ℕ) → n ≤ e → bit row e ≡ false
+-- an array that is made element by element: each has what the closure's answers have
+module _ {F : Type 0} {g : Mut F (ℕ × Unit {0}) ℕ} (Q : ℕ → ℕ → Type 0) (f : F) (n : ℕ) (gives : (i y : ℕ) (q : F) → i < n → Called g f (i, tt) y q → (q ≡ f) × Q i y) where
+  made_from : (a : List ℕ) (k i : ℕ) (p : F) → p ≡ f → i + k ≤ n → IsFromFnResultFrom g p a i k → (j : ℕ) → i ≤ j → j < i + k → Q j (get_or a j 0)
+  made_from a zero i p e w h j lo hi = absurd (omega arith)
+  made_from a (suc k) i p e w h j lo hi =
+      let c = gives i h.1 h.0 (omega arith) (subst (λ (x : F). Called g x (i, tt) h.1 h.0) e h.3) in
+      ⊎_elim
+      (λ (z : i ≡ j). subst (λ (m : ℕ). Q m (get_or a m 0)) z (subst (Q i) (sym (h.2.1 0)) c.1))
+      (λ (l : i < j). made_from a k (i + 1) h.0 c.0 (omega arith) h.4 j (omega arith) (omega arith))
+      (eq-or-lt_of_le lo)
 
-module _ {P : ℕ → Type 0} where
-  pub row_none : RowTo P 0 0
-  row_none = record { says = λ e l. absurd (omega arith); none = λ e _. bit_zero e }
+  pub rows_made : {a : List ℕ} → IsFromFnResult g f a n → (i : ℕ) → i < n → Q i (get_or a i 0)
+  rows_made {a} h i l = made_from a n 0 f refl (omega arith) h.each i (omega arith) (omega arith)
 
-  -- one bit more: set, or left
-  module _ {row n row' : ℕ} (h : RowTo P row n) where
-    pub row_yes : row' ≡ insert row n → P n → RowTo P row' (n + 1)
-    row_yes q p = record { says = says; none = λ e l. let ne : e ≢ n = omega arith in else e ne ∙ h.none e (omega arith) }
-      where
-        here : bit row' n ≡ true
-        here = ap (λ (w : ℕ). bit w n) q ∙ bit_insert row n n ∙ ap (λ (x : Bool). bit row n || x) (eq-eqb n n refl) ∙ or-true (bit row n)
+-- rows that say P, and rows that are what a test says
+pub filled_rows : {P : ℕ → ℕ → Type 0} {a : List ℕ} → ((i : ℕ) → i < side → RowOf (P i) (get_or a i 0)) → Filled P a
+unfolding yes
+filled_rows h = record { says = λ i e li le. (h i li).says e le }
 
-        else : (e : ℕ) → e ≢ n → bit row' e ≡ bit row e
-        else e ne = ap (λ (w : ℕ). bit w e) q ∙ bit_insert row n e ∙ ap (λ (x : Bool). bit row e || x) (ne_eqb e n ne) ∙ or-false (bit row e)
-
-        says : (e : ℕ) → e < n + 1 → Says (bit row' e) (P e)
-        says e l =
-            let le : e ≤ n = omega arith in
-            ⊎_elim
-            (λ (z : e ≡ n). subst⁻¹ (λ (k : ℕ). Says (bit row' k) (P k)) z (said_yes here p))
-            (λ (m : e < n). let ne : e ≢ n = omega arith in subst⁻¹ (λ (b : Bool). Says b (P e)) (else e ne) (h.says e m))
-            (eq-or-lt_of_le le)
-
-    pub row_no : row' ≡ row → (P n → ⊥) → RowTo P row' (n + 1)
-    row_no q p = subst⁻¹ (λ (w : ℕ). RowTo P w (n + 1)) q (record { says = says; none = λ e l. h.none e (omega arith) })
-      where
-        says : (e : ℕ) → e < n + 1 → Says (bit row e) (P e)
-        says e l =
-            let le : e ≤ n = omega arith in
-            ⊎_elim
-            (λ (z : e ≡ n). subst⁻¹ (λ (k : ℕ). Says (bit row k) (P k)) z (said_no (h.none n (omega arith)) p))
-            (λ (m : e < n). h.says e m)
-            (eq-or-lt_of_le le)
-
-  pub row_done : {row n : ℕ} → side ≤ n → RowTo P row n → RowOf P row
-  row_done l h = record { says = λ e m. h.says e (omega arith) }
-
--- the rows below n say P
-pub record RowsTo (P : ℕ → ℕ → Type 0) (a : List ℕ) (n : ℕ) : Type 0 where
+-- the rows below n are what the test says
+pub record RowsTo (says : ℕ → ℕ → Bool → Type 0) (a : List ℕ) (n : ℕ) : Type 0 where
   pub wide : length a ≡ side
-  pub rows : (i : ℕ) → i < n → RowOf (P i) (get_or a i 0)
+  pub rows : (i : ℕ) → i < n → ThoseBelow side (says i) (get_or a i 0)
 
-module _ {P : ℕ → ℕ → Type 0} where
-  pub rows_none : {a : List ℕ} → length a ≡ side → RowsTo P a 0
+module _ {says : ℕ → ℕ → Bool → Type 0} where
+  pub rows_none : {a : List ℕ} → length a ≡ side → RowsTo says a 0
   rows_none w = record { wide = w; rows = λ i l. absurd (omega arith) }
 
-  pub rows_one : {a : List ℕ} {n row : ℕ} → RowsTo P a n → n < side → RowOf (P n) row → RowsTo P (set a n row) (n + 1)
+  pub rows_one : {a : List ℕ} {n row : ℕ} → RowsTo says a n → n < side → ThoseBelow side (says n) row → RowsTo says (set a n row) (n + 1)
   rows_one {a} {n} {row} h l r =
       let in-range : n < length a = omega (arith, h.wide) in
       record {
         wide = length-set a n row ∙ h.wide;
         rows = λ i m. let le : i ≤ n = omega arith in
             ⊎_elim
-            (λ (q : i ≡ n). subst⁻¹ (λ (k : ℕ). RowOf (P k) (get_or (set a n row) k 0)) q (subst⁻¹ (RowOf (P n)) (get_or-set_same a n row 0 in-range) r))
-            (λ (k : i < n). let ne : i ≢ n = omega arith in subst⁻¹ (RowOf (P i)) (get_or-set_other a n i row 0 ne) (h.rows i k))
+            (λ (q : i ≡ n). subst⁻¹ (λ (k : ℕ). ThoseBelow side (says k) (get_or (set a n row) k 0)) q (subst⁻¹ (ThoseBelow side (says n)) (get_or-set_same a n row 0 in-range) r))
+            (λ (k : i < n). let ne : i ≢ n = omega arith in subst⁻¹ (ThoseBelow side (says i)) (get_or-set_other a n i row 0 ne) (h.rows i k))
             (eq-or-lt_of_le le);
       }
 
-  pub rows_done : {a : List ℕ} {n : ℕ} → side ≤ n → RowsTo P a n → Filled P a
+  pub rows_done : {a : List ℕ} {n : ℕ} → side ≤ n → RowsTo says a n → FilledBy says a
   unfolding yes
-  rows_done l h = record { says = λ i e li le. (h.rows i (omega arith)).says e le }
+  rows_done l h = record { each = λ i e li le. (h.rows i (omega arith)).each e le }
+
+-- what a test says that tells whether P holds
+pub filled_by : {P : ℕ → ℕ → Type 0} {says : ℕ → ℕ → Bool → Type 0} {a : List ℕ} → FilledBy says a → ((i e : ℕ) (b : Bool) → i < side → e < side → says i e b → Says b (P i e)) → Filled P a
+filled_by h k = record { says = λ i e li le. k i e _ li le (h.each i e li le) }
+
+pub row_by : {P : ℕ → Type 0} {says : ℕ → Bool → Type 0} {row : ℕ} → ThoseBelow side says row → ((e : ℕ) (b : Bool) → e < side → says e b → Says b (P e)) → RowOf P row
+row_by h k = record { says = λ e l. k e _ l (h.each e l) }
 
 -- a row with no bit, and one with a single bit
 pub no_bit : {P : ℕ → Type 0} → ((e : ℕ) → P e → ⊥) → RowOf P 0

@@ -35,3 +35,7 @@ pub record RowOf (P : ℕ → Type 0) (row : ℕ) : Type 0 where
 -- the answers say of any two places whether P holds of them
 pub record Filled (P : ℕ → ℕ → Type 0) (a : List ℕ) : Type 0 where
   pub says : (i e : ℕ) → i < side → e < side → Says (yes a i e) (P i e)
+
+-- the answers are what the test says of any two places: `says i e b` where the test may say b of i and e
+pub record FilledBy (says : ℕ → ℕ → Bool → Type 0) (a : List ℕ) : Type 0 where
+  pub each : (i e : ℕ) → i < side → e < side → says i e (yes a i e)

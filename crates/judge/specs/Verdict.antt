@@ -1,5 +1,5 @@
 -- What judging comes to, for every two strings of bytes. Assumes nothing: these are definitions.
-use Rattle.std.specs.Prelude.{ℕ, ◌<◌, ◌≤◌, ◌≡◌, Bool, List, length, get_or}
+use Rattle.std.specs.Prelude.{ℕ, ◌<◌, ◌≤◌, ◌≡◌, Bool, List, length, get_or, Option, None, Some, Result, Ok, Err}
 use Rattle.bits.specs.Says.{Says}
 use Rattle.rules.specs.declared.Known.{Known}
 use Rattle.definitions.specs.Definition1.{Rule}
@@ -7,10 +7,8 @@ use Rattle.definitions.specs.Definition2.{letter_count, Sat}
 use Rattle.definitions.specs.Numbers.{bad_letter_number, too_many_letters_number}
 use Rattle.rules.specs.Answer as rules
 use Rattle.rules.specs.Answer.{answer, AcceptedAs, known_of}
-use Rattle.judge.specs.declared.JudgeAnswer.{JudgeAnswer}
-use Rattle.judge.specs.declared.JudgeAnswer.TheVariants.{Judged, Refused}
-use Rattle.judge.specs.declared.letters.Scanned.{Scanned}
-use Rattle.judge.specs.declared.letters.Scanned.TheVariants.{AllLetters, StraysAt}
+use Rattle.judge.specs.declared.Judged.{Judged}
+use Rattle.judge.specs.declared.Refusal.{Refusal}
 use Rattle.judge.specs.Refusals.{number, place}
 use Rattle.judge.specs.Parts.{letter_limit, Few}
 
@@ -19,10 +17,14 @@ pub data Verdict : Type 0 where
   judged : Bool → Known → Verdict
   refused : ℕ → ℕ → Verdict
 
+-- what judging answers: its result, or why there is none
+abbrev pub Answer : Type 0
+Answer = Result Judged Refusal
+
 -- the paper's number and values for each case of the answer
-abbrev pub told : JudgeAnswer → Verdict
-told (Judged b k) = judged b k
-told (Refused x) = refused (number x) (place x)
+abbrev pub told : Answer → Verdict
+told (Ok j) = judged j.accepts j.rule
+told (Err x) = refused (number x) (place x)
 
 -- below the index n stand letters only
 pub record LettersTo (w : List ℕ) (n : ℕ) : Type 0 where
@@ -35,9 +37,9 @@ pub record StrayAt (w : List ℕ) (i : ℕ) : Type 0 where
   pub first : LettersTo w i
 
 -- letters only, or the first byte that is none
-abbrev pub ScannedAs : List ℕ → Scanned → Type 0
-ScannedAs w AllLetters = LettersTo w (length w)
-ScannedAs w (StraysAt i) = StrayAt w i
+abbrev pub ScannedAs : List ℕ → Option ℕ → Type 0
+ScannedAs w None = LettersTo w (length w)
+ScannedAs w (Some i) = StrayAt w i
 
 -- the right verdict on the rule's bytes s and the letters w: the rule's own refusal, then 23, then 22; else yes exactly if the rule accepts w
 pub data JudgeRight (s w : List ℕ) : Verdict → Type 0 where

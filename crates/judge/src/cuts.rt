@@ -2,7 +2,7 @@
 ghost use Rattle.std.specs.Prelude.{◌≡◌, ◌+◌, ◌<◌, ◌≤◌};
 ghost use Rattle.bits.specs.Says.{Says};
 ghost use Rattle.judge.specs.Parts.{side, yes};
-ghost use Rattle.judge.specs.inner.Cut.{ThenAt, OverlapAt, BeginsAt, WithinAt, PairAt, StarAt, letters_at_of, CountedOn, OccursAt, CellAt};
+ghost use Rattle.judge.specs.inner.Cut.{ThenAt, OverlapAt, BeginsAt, WithinAt, PairAt, StarAt, letters_at_of, OccursAt};
 
 use definitions::counts::Counts;
 use definitions::kinds::Pair;
@@ -15,14 +15,6 @@ pub const SIDE: usize = LETTER_LIMIT + 1;
 
 // For each place that a part begins at, the places where it ends and is accepted.
 pub type Answers = [u64; SIDE];
-
-// An operator whose answers are found part by part; `[*]` reads its own answers for the rest.
-#[derive(Clone, Copy)]
-pub enum Operator {
-    Two(Pair),
-    Star,
-    Occurs(Counts),
-}
 
 // Whether the part from i to e is accepted.
 pub fn accepted(a: &Answers, i: usize, e: usize) -> bool
@@ -37,14 +29,7 @@ fn then_at(a: &Answers, b: &Answers, i: usize, e: usize) -> bool
     requires { (i < side) × (e < side) }
     ensures { Says result (ThenAt a.now b.now i e) }
 {
-    let mut cut = i;
-    while cut <= e {
-        if accepted(a, i, cut) && accepted(b, cut, e) {
-            return true;
-        }
-        cut += 1;
-    }
-    false
+    (i..e + 1).any(|cut| accepted(a, i, cut) && accepted(b, cut, e))
 }
 
 // `:`: a letter that closes the first part and opens the second, so that neither is empty.
@@ -52,14 +37,7 @@ fn overlap_at(a: &Answers, b: &Answers, i: usize, e: usize) -> bool
     requires { (i < side) × (e < side) }
     ensures { Says result (OverlapAt a.now b.now i e) }
 {
-    let mut shared = i;
-    while shared < e {
-        if accepted(a, i, shared + 1) && accepted(b, shared, e) {
-            return true;
-        }
-        shared += 1;
-    }
-    false
+    (i..e).any(|shared| accepted(a, i, shared + 1) && accepted(b, shared, e))
 }
 
 // Some beginning of the part, perhaps empty or all of it.
@@ -67,14 +45,7 @@ fn begins_at(a: &Answers, i: usize, e: usize) -> bool
     requires { (i < side) × (e < side) }
     ensures { Says result (BeginsAt a.now i e) }
 {
-    let mut end = i;
-    while end <= e {
-        if accepted(a, i, end) {
-            return true;
-        }
-        end += 1;
-    }
-    false
+    (i..e + 1).any(|end| accepted(a, i, end))
 }
 
 // `&`, one way round: a accepts all of it and b a beginning.
@@ -86,7 +57,7 @@ fn within_at(a: &Answers, b: &Answers, i: usize, e: usize) -> bool
 }
 
 // What an operator of two makes of its operands' answers.
-fn pair_at(p: Pair, a: &Answers, b: &Answers, i: usize, e: usize) -> bool
+pub fn pair_at(p: Pair, a: &Answers, b: &Answers, i: usize, e: usize) -> bool
     requires { (i < side) × (e < side) }
     ensures { Says result (PairAt p a.now b.now i e) }
 {
@@ -100,32 +71,11 @@ fn pair_at(p: Pair, a: &Answers, b: &Answers, i: usize, e: usize) -> bool
 }
 
 // `[*]`: nothing, or a first part that is not empty and a rest that is a repetition.
-fn star_at(a: &Answers, rest: &Answers, i: usize, e: usize) -> bool
+pub fn star_at(a: &Answers, rest: &Answers, i: usize, e: usize) -> bool
     requires { (i < side) × (e < side) }
     ensures { Says result (StarAt a.now rest.now i e) }
 {
-    if i == e {
-        return true;
-    }
-    let mut next = i + 1;
-    while next <= e {
-        if accepted(a, i, next) && accepted(rest, next, e) {
-            return true;
-        }
-        next += 1;
-    }
-    false
-}
-
-// One more than n, if the letter at k is accepted.
-fn count_letter(a: &Answers, k: usize, n: usize) -> usize
-    requires { (k + 1 < side) × (n ≤ k) }
-    ensures { CountedOn a.now k n result }
-{
-    if accepted(a, k, k + 1) {
-        return n + 1;
-    }
-    n
+    i == e || (i + 1..e + 1).any(|next| accepted(a, i, next) && accepted(rest, next, e))
 }
 
 // How many letters from i to e are accepted.
@@ -133,32 +83,14 @@ fn letters_at(a: &Answers, i: usize, e: usize) -> usize
     requires { (i < side) × (e < side) }
     ensures { result ≡ letters_at_of a.now i e }
 {
-    let mut n = 0;
-    let mut k = i;
-    while k < e {
-        n = count_letter(a, k, n);
-        k += 1;
-    }
-    n
+    (i..e).filter(|k| accepted(a, *k, *k + 1)).count()
 }
 
 // `[=i..j]`: as many letters as are asked for, wherever they stand.
-fn occurs_at(c: Counts, a: &Answers, i: usize, e: usize) -> bool
+pub fn occurs_at(c: Counts, a: &Answers, i: usize, e: usize) -> bool
     requires { (i < side) × (e < side) }
     ensures { Says result (OccursAt c a.now i e) }
 {
     let n = letters_at(a, i, e);
     c.low <= n && n <= c.high
-}
-
-// One cell of the answers.
-pub fn cell(op: Operator, a: &Answers, b: &Answers, i: usize, e: usize) -> bool
-    requires { (i < side) × (e < side) }
-    ensures { Says result (CellAt op a.now b.now i e) }
-{
-    match op {
-        Operator::Two(p) => pair_at(p, a, b, i, e),
-        Operator::Star => star_at(a, b, i, e),
-        Operator::Occurs(c) => occurs_at(c, a, i, e),
-    }
 }

@@ -2,11 +2,12 @@
 #![tactic(auto)]
 
 ghost use Rattle.std.specs.Prelude.{◌≡◌};
+ghost use Rattle.judge.specs.declared.Refusal.TheVariants.{OfRule};
 ghost use Rattle.judge.specs.Refusals.{number, place};
 ghost use Rattle.judge.specs.Verdict.{told, JudgeRight};
 
 use definitions::numbers::{BAD_LETTER, TOO_MANY_LETTERS};
-use rules::{Known, RuleAnswer};
+use rules::Known;
 
 mod cuts; // what each operator asks of one part of the letters
 mod parts; // the answers for all parts at once
@@ -14,10 +15,9 @@ mod walk; // from a rule's bytes to its answers
 mod letters; // the letters themselves
 
 use cuts::LETTER_LIMIT;
-use letters::Scanned;
 
 // Why nothing is judged.
-#[derive(Clone, Copy)]
+#[derive(Clone, Copy, Debug, PartialEq, Eq)]
 pub enum Refusal {
     // the rule's own
     OfRule(definitions::Refusal),
@@ -51,31 +51,34 @@ impl Refusal {
     }
 }
 
-// What judging comes to.
-#[derive(Drop)]
-pub enum JudgeAnswer {
-    // Whether the letters are accepted, beside what is known of the rule.
-    Judged { accepts: bool, rule: Known },
-    Refused(Refusal),
+impl From<definitions::Refusal> for Refusal {
+    ghost from_gives = { λ x r. r ≡ OfRule x };
+
+    fn from(refusal: definitions::Refusal) -> Refusal {
+        Refusal::OfRule(refusal)
+    }
+}
+
+// Whether the letters are accepted, beside what is known of the rule.
+#[derive(Clone, Copy, Debug, PartialEq, Eq)]
+pub struct Judged {
+    pub accepts: bool,
+    pub rule: Known,
 }
 
 // Judges the letters by the rule: any two strings of bytes have one answer.
-pub fn judge(rule: &[u8], letters: &[u8]) -> JudgeAnswer
+pub fn judge(rule: &[u8], letters: &[u8]) -> Result<Judged, Refusal>
     ensures { JudgeRight rule.now letters.now (told result) }
 {
-    match rules::read_rule(rule) {
-        RuleAnswer::Refused(x) => JudgeAnswer::Refused(Refusal::OfRule(x)),
-        RuleAnswer::Accepted(known) => {
-            if LETTER_LIMIT < letters.len() {
-                return JudgeAnswer::Refused(Refusal::TooManyLetters);
-            }
-            match letters::scan(letters) {
-                Scanned::StraysAt(i) => JudgeAnswer::Refused(Refusal::BadLetter(i)),
-                Scanned::AllLetters => JudgeAnswer::Judged {
-                    accepts: walk::accepts(rule, letters),
-                    rule: known,
-                },
-            }
-        }
+    let known = rules::read_rule(rule)?;
+    if LETTER_LIMIT < letters.len() {
+        return Err(Refusal::TooManyLetters);
+    }
+    match letters::scan(letters) {
+        Some(i) => Err(Refusal::BadLetter(i)),
+        None => Ok(Judged {
+            accepts: walk::accepts(rule, letters),
+            rule: known,
+        }),
     }
 }

@@ -1,40 +1,31 @@
 // The answers of a rule for all parts of the letters at once, from its operands' answers.
-ghost use Rattle.std.specs.Prelude.{◌≡◌, ◌<◌, ◌≤◌};
+ghost use Rattle.std.specs.Prelude.{◌≡◌, ℕ, ◌<◌, ◌≤◌};
 ghost use Rattle.rules.specs.Places.{GoodFormula};
-ghost use Rattle.judge.specs.Parts.{side, RowOf, Filled};
-ghost use Rattle.judge.specs.inner.Cut.{CellAt, PairAt, StarAt, PlusOf, OccursAt};
+ghost use Rattle.judge.specs.Parts.{side, Filled, FilledBy};
+ghost use Rattle.judge.specs.inner.Cut.{PairAt, StarAt, PlusOf, OccursAt};
 ghost use Rattle.judge.specs.inner.Judging.{LetterRow, LetterParts, InRow};
 
-use crate::cuts::{Answers, Operator, SIDE, cell};
+use crate::cuts::{Answers, SIDE, occurs_at, pair_at, star_at};
+use bits::those::those;
 use definitions::counts::{Counts, after_one};
 use definitions::kinds::Pair;
 use formulas::holds_at;
+use std::array;
 
-// The parts that begin at i.
-fn row(op: Operator, a: &Answers, b: &Answers, i: usize) -> u64
-    requires { i < side }
-    ensures { RowOf (CellAt op a.now b.now i) result }
-{
-    let mut found: u64 = 0;
-    let mut e = 0;
-    while e < SIDE {
-        if cell(op, a, b, i, e) {
-            found = bits::with(found, e);
-        }
-        e += 1;
-    }
-    found
-}
-
-// An operator that reads no answers of its own, everywhere.
-fn parts(op: Operator, a: &Answers, b: &Answers) -> Answers
-    ensures { Filled (CellAt op a.now b.now) result }
+// What a test says of each part, everywhere.
+fn parts<F: Fn(usize, usize) -> bool>(test: F) -> Answers
+    requires { (i e : ℕ) → i < side → e < side → F.pre test i e }
+    ensures { FilledBy (F.post test) result }
 {
     let mut out = [0u64; SIDE];
-    let mut i = 0;
-    while i < SIDE {
-        out[i] = row(op, a, b, i);
-        i += 1;
+    for i in 0..SIDE {
+        out[i] = those(
+            SIDE,
+            |e|
+                requires { F.pre test i e }
+                ensures { F.post test i e result }
+            { test(i, e) },
+        );
     }
     out
 }
@@ -43,14 +34,14 @@ fn parts(op: Operator, a: &Answers, b: &Answers) -> Answers
 pub fn pair_parts(p: Pair, a: &Answers, b: &Answers) -> Answers
     ensures { Filled (PairAt p a.now b.now) result }
 {
-    parts(Operator::Two(p), a, b)
+    parts(|i, e| pair_at(p, a, b, i, e))
 }
 
 // `[=i..j]`, everywhere, from the answers for one letter.
 pub fn occurs_parts(c: Counts, a: &Answers) -> Answers
     ensures { Filled (OccursAt c a.now) result }
 {
-    parts(Operator::Occurs(c), a, a)
+    parts(|i, e| occurs_at(c, a, i, e))
 }
 
 // `[*]`, everywhere: the last place first, since a rest begins later.
@@ -58,11 +49,8 @@ pub fn star_parts(a: &Answers) -> Answers
     ensures { Filled (StarAt a.now result) result }
 {
     let mut out = [0u64; SIDE];
-    let mut i = SIDE;
-    while 0 < i {
-        i -= 1;
-        let begun = row(Operator::Star, a, &out, i);
-        out[i] = begun;
+    for i in (0..SIDE).rev() {
+        out[i] = those(SIDE, |e| star_at(a, &out, i, e));
     }
     out
 }
@@ -96,13 +84,7 @@ pub fn row_parts(c: Counts, a: &Answers) -> Answers
 pub fn empty_parts() -> Answers
     ensures { Filled ◌≡◌ result }
 {
-    let mut out = [0u64; SIDE];
-    let mut i = 0;
-    while i < SIDE {
-        out[i] = bits::with(0, i);
-        i += 1;
-    }
-    out
+    array::from_fn(|i| bits::with(0, i))
 }
 
 // The parts that begin at i: the letter there, if there is one and the formula that stands at `at` holds in it.
@@ -125,11 +107,5 @@ pub fn letter_parts(rule: &[u8], at: usize, letters: &[u8]) -> Answers
     requires { GoodFormula rule.now at }
     ensures { LetterParts rule.now at letters.now result }
 {
-    let mut out = [0u64; SIDE];
-    let mut i = 0;
-    while i < SIDE {
-        out[i] = letter_row(rule, at, letters, i);
-        i += 1;
-    }
-    out
+    array::from_fn(|i| letter_row(rule, at, letters, i))
 }

@@ -10,8 +10,10 @@ use Rattle.bits.proofs.Truths.{same_truth}
 use Rattle.models.specs.declared.Refusal.TheVariants.{TooMany, WrongKind, CutShort, LetterTooLarge, WrongFlag, NoSuchState}
 use Rattle.models.specs.declared.ModelData.{ModelData}
 use Rattle.models.proofs.Once as models-once
-use Rattle.lasting.specs.declared.LastingAnswer.{LastingAnswer}
-use Rattle.lasting.specs.declared.LastingAnswer.TheVariants.{Lasting, Refused}
+use Rattle.models.specs.declared.Refusal.{Refusal}
+use Rattle.std.specs.Prelude.{Ok, Err}
+use Rattle.std.specs.Prelude as std
+use Rattle.lasting.specs.declared.LastingStates.{LastingStates}
 use Rattle.lasting.specs.Endless.{EndlessSet}
 use Rattle.lasting.specs.Stored.{alive_data, WithoutDeadEnds}
 use Rattle.lasting.specs.Answer.{Result, lasts, refused, told, LastingRight, model_refused, lasting}
@@ -31,18 +33,18 @@ one_result g (lasting v n s) (model_refused v') = absurd (let z : ◌≡◌ {A =
 one_result g (lasting v n s) (lasting v' n' s') = ap₂ lasts (n ∙ sym n') (one_set _ _ s s')
 
 -- `told` has a left inverse
-abbrev meant : Result → LastingAnswer
-meant (lasts n w) = Lasting n w
-meant (refused n p) = Refused (models-once.named n p)
+abbrev meant : Result → std.Result LastingStates Refusal
+meant (lasts n w) = Ok (record { states = n; set = w })
+meant (refused n p) = Err (models-once.named n p)
 
-meant_told : (x : LastingAnswer) → meant (told x) ≡ x
-meant_told (Lasting n w) = refl
-meant_told (Refused TooMany) = refl
-meant_told (Refused (WrongKind p)) = refl
-meant_told (Refused (CutShort p)) = refl
-meant_told (Refused (LetterTooLarge p)) = refl
-meant_told (Refused (WrongFlag p)) = refl
-meant_told (Refused (NoSuchState p)) = refl
+meant_told : (x : std.Result LastingStates Refusal) → meant (told x) ≡ x
+meant_told (Ok l) = refl
+meant_told (Err TooMany) = refl
+meant_told (Err (WrongKind p)) = refl
+meant_told (Err (CutShort p)) = refl
+meant_told (Err (LetterTooLarge p)) = refl
+meant_told (Err (WrongFlag p)) = refl
+meant_told (Err (NoSuchState p)) = refl
 
-pub one_answer : (g : List ℕ) (a b : LastingAnswer) → LastingRight g (told a) → LastingRight g (told b) → a ≡ b
+pub one_answer : (g : List ℕ) (a b : std.Result LastingStates Refusal) → LastingRight g (told a) → LastingRight g (told b) → a ≡ b
 one_answer g a b x y = sym (meant_told a) ∙ ap meant (one_result g x y) ∙ meant_told b

@@ -4,32 +4,25 @@
 ghost use Rattle.lasting.specs.Answer.{told, LastingRight};
 
 use crate::rounds::lasting_states;
-use models::ModelAnswer;
 
 mod rounds; // the set, round by round
 pub mod alive; // the model without the states outside it
 
-// Which states last.
-#[derive(Drop)]
-pub enum LastingAnswer {
-    // so many states, and the set of those from which an endless run leaves
-    Lasting { states: usize, set: u64 },
-    // the model's own
-    Refused(models::Refusal),
+// Which states last: of so many states the set of those from which an endless run leaves.
+#[derive(Clone, Copy, Debug, PartialEq, Eq)]
+pub struct LastingStates {
+    pub states: usize,
+    pub set: u64,
 }
 
-// The states of a model from which an endless run leaves: any bytes have one answer.
-pub fn lasting(model: &[u8]) -> LastingAnswer
+// The states of a model from which an endless run leaves, or the model's own refusal: any bytes have one answer.
+pub fn lasting(model: &[u8]) -> Result<LastingStates, models::Refusal>
     ensures { LastingRight model.now (told result) }
 {
-    let read = models::read_model(model);
-    let answer = read.answer;
-    match answer {
-        ModelAnswer::Refused(x) => LastingAnswer::Refused(x),
-        ModelAnswer::Accepted => {
-            let states = read.model.states;
-            let set = lasting_states(states, &read.model.successors);
-            LastingAnswer::Lasting { states, set }
-        }
-    }
+    let m = models::read_model(model)?;
+    let set = lasting_states(m.states, &m.successors);
+    Ok(LastingStates {
+        states: m.states,
+        set,
+    })
 }

@@ -6,16 +6,15 @@ ghost use Rattle.models.specs.Model.{model_states};
 ghost use Rattle.lasting.specs.Endless.{EndlessSet};
 ghost use Rattle.lasting.specs.inner.Kept.{follows, GoesOn};
 
+use bits::rising::members;
+
 // The states of the set that have a successor in it.
 fn round(successors: &[u64], set: u64) -> u64
     requires { model_states ≤ length successors.now }
     ensures { Members result (λ k. T (bit set k) × GoesOn successors.now set k) }
 {
     let mut kept: u64 = 0;
-    let mut rest = set;
-    while rest != 0 {
-        let k = bits::lowest(rest);
-        rest = bits::without(rest, k);
+    for k in members(set) {
         kept = bits::with_if(kept, k, successors[k] & set != 0);
     }
     kept

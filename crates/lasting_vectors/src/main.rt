@@ -1,7 +1,6 @@
 // Prints which states of a model last, and rulecheck's line for it: models with dead ends, and the same with a way on.
 #![tactic(auto)]
 
-use lasting::LastingAnswer;
 use std::io;
 
 // p0[*];p1 with its length; the model stands behind it.
@@ -15,71 +14,37 @@ const RECORD: usize = 11;
 
 const INPUT_ROOM: usize = RULE_ROOM + RECORD * STATES;
 
-fn print(rt: &impl Print, bytes: &[u8]) -> io::Result<()> {
-    rt.write_all(bytes)
-}
-
-fn number(rt: &impl Print, n: u64) -> io::Result<()> {
-    print!(rt; "{n}")
-}
-
-fn member(rt: &impl Print, set: u64, k: usize) -> io::Result<()> {
-    if k < STATES {
-        if bits::has(set, k) {
-            print(rt, b" ")?;
-            number(rt, k as u64)?;
-        }
-    }
-    Ok(())
-}
-
-fn members(rt: &impl Print, set: u64) -> io::Result<()> {
-    for k in 0..STATES {
-        member(rt, set, k)?;
-    }
-    Ok(())
-}
-
-fn lasts(rt: &impl Print, states: usize, set: u64) -> io::Result<()> {
-    number(rt, states as u64)?;
-    print(rt, b" states, these last:")?;
-    members(rt, set)?;
-    print(rt, b"\n")
-}
-
-// The states that last, or the refusal.
+// The states that last, in rising order, or the refusal.
 fn lasting(rt: &impl Print, model: &[u8]) -> io::Result<()> {
     match lasting::lasting(model) {
-        LastingAnswer::Lasting { states, set } => lasts(rt, states, set)?,
-        LastingAnswer::Refused(x) => {
-            print(rt, b"refused ")?;
-            number(rt, x.number())?;
-            print(rt, b" at ")?;
-            number(rt, x.place() as u64)?;
-            print(rt, b"\n")?;
+        Ok(found) => {
+            print!(rt; "{} states, these last:", found.states)?;
+            for k in bits::rising::members(found.set) {
+                print!(rt; " {k}")?;
+            }
+            println!(rt; "")
         }
+        Err(x) => println!(rt; "refused {} at {}", x.number(), x.place()),
     }
-    Ok(())
 }
 
 fn line(rt: &impl Print, input: &[u8]) -> io::Result<()> {
     let mut out = [0u8; lines::LINE_ROOM];
     let long = lines::line(input, &mut out);
     if long <= out.len() {
-        print(rt, &out[..long])?;
+        rt.write_all(&out[..long])?;
     }
-    print(rt, b"\n")
+    println!(rt; "")
 }
 
 // Both, for the first n states of the model behind the rule.
-fn show(rt: &impl Print, name: &[u8], input: &[u8], n: usize) -> io::Result<()> {
-    print(rt, name)?;
-    print(rt, b"\n  ")?;
+fn show(rt: &impl Print, name: &str, input: &[u8], n: usize) -> io::Result<()> {
+    print!(rt; "{name}\n  ")?;
     if n <= STATES {
         let end = RULE_ROOM + RECORD * n;
         if end <= input.len() {
             lasting(rt, &input[RULE_ROOM..end])?;
-            print(rt, b"  ")?;
+            print!(rt; "  ")?;
             line(rt, &input[..end])?;
         }
     }
@@ -104,11 +69,9 @@ fn put_state(input: &mut [u8], k: usize, letter: u8, flag: u8) {
 
 // State k goes to t, and to no other in the same eight.
 fn put_way(input: &mut [u8], k: usize, t: usize) {
-    if k < STATES {
-        if t < STATES {
-            let at = RULE_ROOM + RECORD * k + 3;
-            put(input, at + t / 8, 1u8 << (t % 8));
-        }
+    if k < STATES && t < STATES {
+        let at = RULE_ROOM + RECORD * k + 3;
+        put(input, at + t / 8, 1u8 << (t % 8));
     }
 }
 
@@ -125,12 +88,12 @@ fn chain(rt: &impl Print, input: &mut [u8]) -> io::Result<()> {
     put_chain(input);
     put_state(input, 0, 1, 1);
     put_state(input, STATES - 1, 2, 0);
-    show(rt, b"a chain of 64 states into a dead end", input, STATES)?;
+    show(rt, "a chain of 64 states into a dead end", input, STATES)?;
     put_way(input, STATES - 1, STATES - 1);
-    show(rt, b"the same with a loop at its end", input, STATES)?;
+    show(rt, "the same with a loop at its end", input, STATES)?;
     show(
         rt,
-        b"without its last state, to which the one before it goes",
+        "without its last state, to which the one before it goes",
         input,
         STATES - 1,
     )
@@ -147,7 +110,7 @@ fn fork(rt: &impl Print, input: &mut [u8]) -> io::Result<()> {
     put_way(input, 3, 2);
     show(
         rt,
-        b"a dead end that is initial and has p1, and a longer way to p1",
+        "a dead end that is initial and has p1, and a longer way to p1",
         input,
         4,
     )
@@ -156,13 +119,13 @@ fn fork(rt: &impl Print, input: &mut [u8]) -> io::Result<()> {
 fn alone(rt: &impl Print, input: &mut [u8]) -> io::Result<()> {
     put_state(input, 0, 2, 1);
     put_way(input, 0, 0);
-    show(rt, b"a state that goes to itself alone", input, 1)?;
-    show(rt, b"no states", input, 0)
+    show(rt, "a state that goes to itself alone", input, 1)?;
+    show(rt, "no states", input, 0)
 }
 
 fn with_rule(input: &mut [u8]) {
-    for i in 0..RULE_ROOM {
-        put(input, i, RULE[i]);
+    for (place, b) in input.iter_mut().zip(RULE) {
+        *place = b;
     }
 }
 

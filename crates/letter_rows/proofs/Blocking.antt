@@ -1,4 +1,4 @@
--- Words that are read out of a slice, and written into one, a step apart. Assumes nothing.
+-- Words that are written into a slice, a step apart. Assumes nothing.
 use Prim.Native.Nat.{ℕ, ◌+◌, ◌*◌, ◌<◌}
 use native.Mathlib.Nat.{eq_of_mul-eq-mul_left}
 use native.Mathlib.Omega.{arith}
@@ -8,19 +8,9 @@ use mathlib.Core.Logic.{◌≢◌}
 use mathlib.Core.List.{List}
 use lib.ListN.{length, get_or, set, length-set}
 use lib.Seq.{get_or-set_same, get_or-set_other}
-use Rattle.letter_rows.specs.inner.Blocks.{ReadOut, WrittenTo}
-use Rattle.squares.proofs.Rounding.{filled}
+use Rattle.letter_rows.specs.inner.Blocks.{WrittenTo}
 
 module _ (words block : List ℕ) (base step : ℕ) where
-  pub read_none : ReadOut words block block base step 0
-  read_none = record { size = refl; new = λ k l. absurd (omega arith) }
-
-  pub read_turn : {b : List ℕ} (n : ℕ) → n < length b → ReadOut words block b base step n → ReadOut words block (set b n (get_or words (base + step * n) 0)) base step (n + 1)
-  read_turn {b} n l x = record {
-    size = length-set b n (get_or words (base + step * n) 0) ∙ x.size;
-    new = filled b (λ k. get_or words (base + step * k) 0) n (get_or words (base + step * n) 0) l refl x.new;
-  }
-
   pub write_none : WrittenTo words words block base step 0
   write_none = record { size = refl; new = λ k l. absurd (omega arith); old = λ i o. refl }
 

@@ -14,8 +14,9 @@ use Rattle.automata.specs.Table.{table_states, table_entries, cell}
 use Rattle.tables.proofs.promise.Beyonds.{beyond_none}
 use Rattle.steps.specs.Moves.{row_of}
 use Rattle.letter_rows.specs.Layouts.{row_at, label_of}
-use Rattle.letter_rows.specs.Answer.{whole, converted, RowsRight, TableRight}
+use Rattle.letter_rows.specs.Answer.{Result, short_slice, whole, RowsRight, TableRight}
 use Rattle.squares.specs.Squares.{TurnedOver}
+use Rattle.letter_rows.specs.inner.Conversions.{Converts, short, carried}
 use Rattle.letter_rows.specs.inner.Blocks.{Lies, ReadOut, WrittenTo, Steps, by_state, by_letter, turned_word, Carried, CarriedTo}
 
 -- words of the same bits
@@ -55,7 +56,7 @@ among n k (by_letter e d) h l = rw (e, d) (omega arith)
 
 -- ---- one state, and all
 
-pub carried_of : {given before after block b b' : List ℕ} {far near p : ℕ} → ReadOut given block b (far * p) near 64 → TurnedOver b b' → WrittenTo before after b' (near * p) far 64
+pub carried_of : {given before after b b' : List ℕ} {far near p : ℕ} → ReadOut given b (far * p) near → TurnedOver b b' → WrittenTo before after b' (near * p) far 64
     → Carried given before after far near p
 carried_of {given} {b = b} {far = far} {near} {p} x y z = record {
   size = z.size;
@@ -78,10 +79,11 @@ carried_next {given} {before} {a} {b} {far} {near} n s h x y = record {
 
 -- ---- the two conversions
 
-module _ {given before after : List ℕ} (long : table_entries ≤ length given) (long' : table_entries ≤ length before) where
-  pub rows_whole : CarriedTo given before after 64 1 64 → RowsRight given before after converted
+module _ {given before after : List ℕ} where
+  pub rows_right : {r : Result} → Converts given before after 64 1 r → RowsRight given before after r
   unfolding row_of
-  rows_whole x = whole long long' entry x.rest
+  rows_right (short s e) = short_slice s e
+  rows_right (carried long long' x) = whole long long' entry x.rest
     where
       entry : (i j : ℕ) → i < table_states → j < table_states → get_or after (64 * i + j) 0 ≡ row_of given j i
       entry i j h l =
@@ -89,9 +91,10 @@ module _ {given before after : List ℕ} (long : table_entries ≤ length given)
           subst (λ (n : ℕ). get_or after n 0 ≡ row_of given j i) e
           (x.new j i l h ∙ word_same 64 (λ q. bit (get_or given (64 * j + 1 * q) 0) i) (λ q. bit (cell given j q) i) (λ q m. ap (λ (n : ℕ). bit (get_or given (64 * j + n) 0) i) (one-mul q)))
 
-  pub table_whole : CarriedTo given before after 1 64 64 → TableRight given before after converted
+  pub table_right : {r : Result} → Converts given before after 1 64 r → TableRight given before after r
   unfolding label_of
-  table_whole x = whole long long' entry x.rest
+  table_right (short s e) = short_slice s e
+  table_right (carried long long' x) = whole long long' entry x.rest
     where
       entry : (i j : ℕ) → i < table_states → j < table_states → get_or after (64 * i + j) 0 ≡ label_of given i j
       entry i j h l =

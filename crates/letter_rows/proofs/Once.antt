@@ -8,9 +8,10 @@ use lib.ListN.{length, get_or}
 use Rattle.rules.proofs.Once.{told_once}
 use Rattle.automata.specs.Table.{table_entries}
 use Rattle.tables.proofs.promise.Beyonds.{beyond_once}
+use Rattle.std.specs.Prelude as std
+use Rattle.std.specs.Prelude.{Ok, Err}
+use Rattle.letter_rows.specs.declared.Refusal.{Refusal}
 use Rattle.letter_rows.specs.declared.Refusal.TheVariants.{ShortSlice}
-use Rattle.letter_rows.specs.declared.ConvertAnswer.{ConvertAnswer}
-use Rattle.letter_rows.specs.declared.ConvertAnswer.TheVariants as variants
 use Rattle.letter_rows.specs.Answer.{Result, converted, refused, told, ConvertRight, short_slice, whole}
 
 -- a place among the first 4,096 is that of a pair
@@ -31,13 +32,13 @@ one_result {before = before} {u} {v} (whole l m f r) (whole l' m' g s) =
     (refl, beyond_once table_entries before u v r s (by_place (λ k. get_or u k 0 ≡ get_or v k 0) (λ i j h k. f i j h k ∙ sym (g i j h k))))
 
 -- the answer that a result tells of: `told` loses nothing
-abbrev meant : Result → ConvertAnswer
-meant converted = variants.Converted
-meant (refused n p) = variants.Refused ShortSlice
+abbrev meant : Result → std.Result (Unit {0}) Refusal
+meant converted = Ok tt
+meant (refused n p) = Err ShortSlice
 
-meant_told : (a : ConvertAnswer) → meant (told a) ≡ a
-meant_told variants.Converted = refl
-meant_told (variants.Refused ShortSlice) = refl
+meant_told : (a : std.Result (Unit {0}) Refusal) → meant (told a) ≡ a
+meant_told (Ok x) = refl
+meant_told (Err ShortSlice) = refl
 
-pub one_answer : {given before u v : List ℕ} {entry : ℕ → ℕ → ℕ} (a b : ConvertAnswer) → ConvertRight given before u entry (told a) → ConvertRight given before v entry (told b) → (a ≡ b) × (u ≡ v)
+pub one_answer : {given before u v : List ℕ} {entry : ℕ → ℕ → ℕ} (a b : std.Result (Unit {0}) Refusal) → ConvertRight given before u entry (told a) → ConvertRight given before v entry (told b) → (a ≡ b) × (u ≡ v)
 one_answer a b x y = let o = one_result x y in (told_once told meant meant_told a b o.0, o.1)

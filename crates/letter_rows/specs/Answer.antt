@@ -1,11 +1,11 @@
 -- What a conversion comes to, for any two slices. Assumes nothing: these are definitions.
-use Rattle.std.specs.Prelude.{ℕ, ◌+◌, ◌*◌, ◌<◌, ◌≤◌, ◌≡◌, ◌⊎◌, List, length, get_or}
+use Rattle.std.specs.Prelude as std
+use Rattle.std.specs.Prelude.{ℕ, ◌+◌, ◌*◌, ◌<◌, ◌≤◌, ◌≡◌, ◌⊎◌, List, length, get_or, Ok, Err}
 use Rattle.definitions.specs.Numbers.{short_slice_number}
 use Rattle.automata.specs.Table.{table_states, table_entries}
 use Rattle.tables.specs.Beyond.{Beyond}
 use Rattle.steps.specs.Moves.{row_of}
-use Rattle.letter_rows.specs.declared.ConvertAnswer.{ConvertAnswer}
-use Rattle.letter_rows.specs.declared.ConvertAnswer.TheVariants as variants
+use Rattle.letter_rows.specs.declared.Refusal.{Refusal}
 use Rattle.letter_rows.specs.Refusals.{number, place}
 use Rattle.letter_rows.specs.Layouts.{label_of}
 
@@ -15,9 +15,9 @@ pub data Result : Type 0 where
   refused : ℕ → ℕ → Result
 
 -- the paper's number and values for each case of the answer
-abbrev pub told : ConvertAnswer → Result
-told variants.Converted = converted
-told (variants.Refused x) = refused (number x) (place x)
+abbrev pub told : std.Result (Unit {0}) Refusal → Result
+told (Ok x) = converted
+told (Err x) = refused (number x) (place x)
 
 -- from `given`, the slice `before` becomes `after`: 21 if either is short, and then nothing changes; else each of the first 4,096 words is the one
 -- that stands there in the other layout, whatever stood there, and later ones are as they were

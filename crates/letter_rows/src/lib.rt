@@ -9,7 +9,8 @@ ghost use Rattle.steps.specs.Moves.{advanced};
 ghost use Rattle.letter_rows.specs.Layouts.{table_by};
 ghost use Rattle.letter_rows.specs.Refusals.{number, place};
 ghost use Rattle.letter_rows.specs.Answer.{told, RowsRight, TableRight};
-ghost use Rattle.letter_rows.specs.inner.Blocks.{BothLong};
+ghost use Rattle.letter_rows.specs.inner.Blocks.{BothLong, Steps};
+ghost use Rattle.letter_rows.specs.inner.Conversions.{Converts};
 
 use automata::{STATES, TABLE_ENTRIES};
 use definitions::numbers::SHORT_SLICE;
@@ -17,7 +18,7 @@ use definitions::numbers::SHORT_SLICE;
 mod states; // the words of one state, and of all
 
 // Why nothing is converted.
-#[derive(Clone, Copy)]
+#[derive(Clone, Copy, Debug, PartialEq, Eq)]
 pub enum Refusal {
     // one of the slices is too short for a table
     ShortSlice,
@@ -43,45 +44,37 @@ impl Refusal {
     }
 }
 
-// What a conversion comes to.
-#[derive(Drop)]
-pub enum ConvertAnswer {
-    // The slice begins with the other layout.
-    Converted,
-    // The slice is as it was.
-    Refused(Refusal),
-}
-
 // Whether both slices have the entries of a table.
 fn long_enough(given: &[u64], to: &[u64]) -> bool
     ensures { Says result (BothLong given.now to.now) }
 {
-    if given.len() < TABLE_ENTRIES {
-        return false;
+    TABLE_ENTRIES <= given.len() && TABLE_ENTRIES <= to.len()
+}
+
+// Writes the other layout of what is given, where both slices are long enough, and else nothing.
+fn convert(given: &[u64], to: &mut [u64], far: usize, near: usize) -> Result<(), Refusal>
+    requires { Steps far near }
+    ensures { Converts given.now to.old to.new far near (told result) }
+{
+    if !long_enough(given, to) {
+        return Err(Refusal::ShortSlice);
     }
-    TABLE_ENTRIES <= to.len()
+    states::carry_all(given, to, far, near);
+    Ok(())
 }
 
 // Writes the table's rows by letter: at 64·x + p the set of states that letter x leads to from p.
-pub fn rows_of(table: &[u64], rows: &mut [u64]) -> ConvertAnswer
+pub fn rows_of(table: &[u64], rows: &mut [u64]) -> Result<(), Refusal>
     ensures { RowsRight table.now rows.old rows.new (told result) }
 {
-    if !long_enough(table, rows) {
-        return ConvertAnswer::Refused(Refusal::ShortSlice);
-    }
-    states::convert(table, rows, STATES, 1);
-    ConvertAnswer::Converted
+    convert(table, rows, STATES, 1)
 }
 
 // Writes the table that has these rows: at 64·p + q the set of letters that lead from p to q.
-pub fn table_of(rows: &[u64], table: &mut [u64]) -> ConvertAnswer
+pub fn table_of(rows: &[u64], table: &mut [u64]) -> Result<(), Refusal>
     ensures { TableRight rows.now table.old table.new (told result) }
 {
-    if !long_enough(rows, table) {
-        return ConvertAnswer::Refused(Refusal::ShortSlice);
-    }
-    states::convert(rows, table, 1, STATES);
-    ConvertAnswer::Converted
+    convert(rows, table, 1, STATES)
 }
 
 // The states that some member of the set reaches under the letter: one row for each member.

@@ -7,14 +7,12 @@ ghost use Rattle.letter_rows.specs.inner.Blocks.{Lies, ReadOut, WrittenTo, Steps
 use automata::STATES;
 use squares::{SIDE, turn_over};
 
-// The block becomes the words at `base`, `base` + `step` and so on.
-fn read_block(words: &[u64], base: usize, step: usize, block: &mut [u64])
-    requires { (length block.old ≡ side) × Lies words.now base step }
-    ensures { ReadOut words.now block.old block.new base step side }
+// The words at `base`, `base` + `step` and so on.
+fn read_block(words: &[u64], base: usize, step: usize) -> [u64; SIDE]
+    requires { Lies words.now base step }
+    ensures { ReadOut words.now result base step }
 {
-    for k in 0..SIDE {
-        block[k] = words[base + step * k];
-    }
+    std::array::from_fn(|k| words[base + step * k])
 }
 
 // The words at these places become the block's.
@@ -22,8 +20,8 @@ fn write_block(words: &mut [u64], base: usize, step: usize, block: &[u64])
     requires { (length block.now ≡ side) × Lies words.old base step × (0 < step) }
     ensures { WrittenTo words.old words.new block.now base step side }
 {
-    for k in 0..SIDE {
-        words[base + step * k] = block[k];
+    for (k, word) in block.iter().enumerate() {
+        words[base + step * k] = *word;
     }
 }
 
@@ -32,14 +30,13 @@ fn carry(given: &[u64], to: &mut [u64], far: usize, near: usize, p: usize)
     requires { (table_entries ≤ length given.now) × (table_entries ≤ length to.old) × Steps far near × (p < table_states) }
     ensures { Carried given.now to.old to.new far near p }
 {
-    let mut block = [0u64; SIDE];
-    read_block(given, far * p, near, &mut block);
+    let mut block = read_block(given, far * p, near);
     turn_over(&mut block);
     write_block(to, near * p, far, &block);
 }
 
 // The words of every state.
-pub fn convert(given: &[u64], to: &mut [u64], far: usize, near: usize)
+pub fn carry_all(given: &[u64], to: &mut [u64], far: usize, near: usize)
     requires { (table_entries ≤ length given.now) × (table_entries ≤ length to.old) × Steps far near }
     ensures { CarriedTo given.now to.old to.new far near table_states }
 {

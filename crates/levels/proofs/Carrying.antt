@@ -12,8 +12,8 @@ use Rattle.bits.specs.Sets.{In}
 use Rattle.bits.proofs.Resting.{Done, Rest, done_older, done_newest, done_split, done_all}
 use Rattle.levels.specs.inner.Waves.{Carried, Fronts}
 
-pub carried_none : (w : ℕ) (after front : List ℕ) → Carried (Done w w) after front front
-carried_none w after front = record { size = refl; these = λ s d. absurd (d.gone d.was); others = λ s n. refl }
+pub carried_begun : {w r : ℕ} → r ≡ w → (after front : List ℕ) → Carried (Done w r) after front front
+carried_begun e after front = record { size = refl; these = λ s d. absurd (d.gone (subst (λ (y : ℕ). T (bit y s)) (sym e) d.was)); others = λ s n. refl }
 
 -- one turn: state t has its set
 pub carried_turn : {w r r' t : ℕ} {after front now : List ℕ} → Rest w r → Lowest word_bits r t → r' ≡ remove word_bits r t → t < length now → Carried (Done w r) after front now

@@ -8,7 +8,6 @@ pub mod Steps
 pub mod Rounds
 pub mod Going
 pub mod Answered
-pub mod Places
 pub mod UsedLetters
 pub mod Queueing
 pub mod Waving

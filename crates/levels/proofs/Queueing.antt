@@ -11,7 +11,8 @@ use lib.ListN.{length, get_or, set}
 use lib.Seq.{get_or-set_same, get_or-set_other}
 use Rattle.bits.specs.Word.{bit, remove, Lowest}
 use Rattle.bits.specs.Sets.{Over, In}
-use Rattle.bits.proofs.Resting.{Done, Rest, over_none, over_older, over_newest, over_split, over_end, over_start}
+use Rattle.bits.proofs.Begun.{over_begun}
+use Rattle.bits.proofs.Resting.{Done, Rest, over_older, over_newest, over_split, over_end, over_start}
 use Rattle.tables.proofs.promise.Beyonds.{beyond_none, beyond_next, beyond_then}
 use Rattle.levels.specs.Lent.{pair_count}
 use Rattle.levels.specs.inner.Passes.{Nz, Step, view, pair_at}
@@ -149,8 +150,8 @@ pub pushed_same : {j c d : ℕ} {m m' q q' : List ℕ} {S : ℕ → Type 0} (U :
 pushed_same U x f g = pushed_wide U x f (λ i u. inl (g i u))
 
 -- a loop over the members of a set
-pub pushing_none : {j c : ℕ} {m queue : List ℕ} (w : ℕ) (S : ℕ → ℕ → Type 0) → Queued (suc j) m queue c → Pushed j m m queue queue (λ i. Over (Done w w) (λ t. S t i)) c c
-pushing_none w S x = pushed_none (λ i. Over (Done w w) (λ t. S t i)) (λ i o. over_none o) x
+pub pushing_begun : {j c w r : ℕ} {m queue : List ℕ} → r ≡ w → (S : ℕ → ℕ → Type 0) → Queued (suc j) m queue c → Pushed j m m queue queue (λ i. Over (Done w r) (λ t. S t i)) c c
+pushing_begun {w = w} {r = r} e S x = pushed_none (λ i. Over (Done w r) (λ t. S t i)) (λ i o. over_begun e o) x
 
 pub pushing_turn : {w r s t j c d e : ℕ} {m m' m'' q q' q'' : List ℕ} (S : ℕ → ℕ → Type 0) → Rest w r → Lowest 64 r t → s ≡ remove 64 r t → Pushed j m m' q q' (λ i. Over (Done w r) (λ t. S t i)) c d → Pushed j m' m'' q' q'' (S t) d e
     → Pushed j m m'' q q'' (λ i. Over (Done w s) (λ t. S t i)) c e

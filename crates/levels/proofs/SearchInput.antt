@@ -5,6 +5,7 @@ use Rattle.automata.specs.Table.{Table}
 use Rattle.automata.proofs.TableOf.{edge_out}
 use Rattle.models.specs.Model.{Model}
 use Rattle.levels.specs.declared.shape.Sizes.{Sizes}
+use Rattle.levels.specs.declared.searching.Searching.{Searching}
 use Rattle.levels.specs.Lent.{model_in_of, table_in, LentTable, LentLetters}
 use Rattle.levels.specs.inner.Passes.{labels_in}
 use Rattle.levels.proofs.Level.{Fair}
@@ -20,6 +21,10 @@ pub record SearchInput : Type 0 where
 
 abbrev pub input_of : (sizes : Sizes) (labels letters successors : List ℕ) → LentTable labels sizes.weight → LentLetters letters sizes.states → SearchInput
 input_of sizes labels letters successors table model = record { sizes = sizes; labels = labels; letters = letters; successors = successors; table = table; model = model }
+
+-- that of the passes
+abbrev pub input_in : Searching → SearchInput
+input_in s = input_of s.sizes s.table.now s.letters.now s.successors.now s.lent.labels s.lent.model
 
 -- the model and the table that are searched, and the table's labels alone
 abbrev pub model_for : SearchInput → Model

@@ -1,5 +1,5 @@
 -- A level of the forward pass, row by row. Assumes nothing.
-use Prim.Native.Nat.{ℕ, suc, ◌+◌, ◌*◌, ◌^◌, ◌<◌}
+use Prim.Native.Nat.{ℕ, suc, ◌^◌, ◌<◌}
 use mathlib.Core.Path.{◌≡◌, refl, sym, ap, subst, ◌∙◌}
 use mathlib.Core.Bool.{Bool}
 use mathlib.Core.Logic.{◌≢◌, ◌⊎◌, inl, inr, ⊎_elim}
@@ -18,6 +18,7 @@ use Rattle.bits.proofs.Sayings.{says_in}
 use Rattle.bits.proofs.Members.{members_same, add_out, add_old, add_new}
 use Rattle.bits.proofs.Resting.{Done, Rest, in_word, done_older, done_newest, done_not}
 use Rattle.automata.specs.Table.{table_states}
+use Rattle.steps.specs.Rows.{Into, rows_table}
 use Rattle.models.specs.Model.{model_states}
 use Rattle.levels.specs.inner.Passes.{Nz, view, pair_at}
 use Rattle.levels.specs.inner.Waves.{Queued, Pushed, Sent, Lands, Fronts, Incoming}
@@ -25,11 +26,11 @@ use Rattle.levels.proofs.Queueing.{pushed_wide}
 
 -- the new pairs of row t
 pub arrive_members : {from set new : ℕ} (rows letters successors front m : List ℕ) (fresh t : ℕ) → Members from (λ q. Over (In fresh) (λ s. Sent successors front t s q))
-    → Members set (λ p. Over (In from) (λ q. T (bit (get_or rows (table_states * get_or letters t 0 + q) 0) p))) → Members new (λ q. T (bit set q) × (view m t q ≡ 0))
+    → Members set (Into (rows_table rows) (In from) (get_or letters t 0)) → Members new (λ q. T (bit set q) × (view m t q ≡ 0))
     → Members new (Incoming rows letters successors front m fresh t)
 arrive_members rows letters successors front m fresh t x y z =
-    members_same z (λ p h. let o = y.holds p h.0 in (record { from = o.at; held = x.holds o.at o.inside; reads = o.holds }, h.1))
-    (λ p h. (y.has p (record { at = h.0.from; inside = x.has h.0.from h.0.held; holds = h.0.reads }), h.1))
+    members_same z (λ p h. let o = y.holds p h.0 in (record { from = o.from; held = x.holds o.from o.held; reads = o.reads }, h.1))
+    (λ p h. (y.has p (record { from = h.0.from; held = x.has h.0.from h.0.held; reads = h.0.reads }), h.1))
 
 -- ---- row t is done
 

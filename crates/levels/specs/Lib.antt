@@ -1,3 +1,4 @@
 pub mod Right
 pub mod Lent
 pub mod inner
+pub mod Through

@@ -8,15 +8,14 @@ ghost use Rattle.levels.specs.inner.Passes.{view, Workspace, pair_at};
 ghost use Rattle.levels.specs.inner.Waves.{Queued, Pushed};
 
 use automata::STATES;
+use bits::rising::members;
 
 // Sets the first n marks to 0.
 pub fn clear(marks: &mut [u16], n: usize)
     requires { n ≤ length marks.old }
     ensures { Cleared n marks.old marks.new }
 {
-    for i in 0..n {
-        marks[i] = 0;
-    }
+    marks[..n].fill(0);
 }
 
 // Of the set those q whose pair (t, q) has the mark.
@@ -25,10 +24,7 @@ pub fn filter(marks: &[u16], set: u64, t: usize, mark: u16) -> u64
     ensures { Members result (λ q. T (bit set q) × (view marks.now t q ≡ mark)) }
 {
     let mut out: u64 = 0;
-    let mut rest = set;
-    while rest != 0 {
-        let q = bits::lowest(rest);
-        rest = bits::without(rest, q);
+    for q in members(set) {
         let there = marks[STATES * t + q];
         out = bits::with_if(out, q, there == mark);
     }
@@ -57,10 +53,7 @@ pub fn push_all(
     ensures { Pushed level marks.old marks.new queue.old queue.new (λ i. Over (In set) (λ q. i ≡ pair_at t q)) count result }
 {
     let mut total = count;
-    let mut rest = set;
-    while rest != 0 {
-        let q = bits::lowest(rest);
-        rest = bits::without(rest, q);
+    for q in members(set) {
         push(marks, queue, STATES * t + q, level, total);
         total += 1;
     }

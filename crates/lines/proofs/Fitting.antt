@@ -13,11 +13,10 @@ use Rattle.models.specs.Stored.{model_of}
 use Rattle.models.specs.Answer as models
 use Rattle.models.proofs.Soundness.{answer_held}
 use Rattle.lasting.specs.Endless.{LastingRun}
-use Rattle.passes.specs.declared.inner.Searched.TheVariants.{Found, Nothing}
-use Rattle.search.specs.declared.SearchAnswer.{SearchAnswer}
-use Rattle.search.specs.declared.SearchAnswer.TheVariants.{Answered, Refused}
+use Rattle.std.specs.Prelude.{Option, Some, None, Ok, Err}
+use Rattle.passes.specs.Told.{answer_for}
 use Rattle.levels.specs.Right.{Answer, found, Right}
-use Rattle.search.specs.Answer.{Slices, Result, answered, SearchRight, refusal, searched, told}
+use Rattle.search.specs.Answer.{SearchAnswer, Slices, given_for, Result, answered, SearchRight, refusal, searched, told}
 use Rattle.writing.specs.Decimal.{named}
 use Rattle.writing.specs.Refused.{refused_text}
 use Rattle.lines.specs.Text.{found_word, pairs_word, colon, none_word, states_text, found_text, none_text}
@@ -56,9 +55,12 @@ module _ (rule model : List ℕ) (before after : Slices) (bytes : (i : ℕ) → 
 pub search_fits : (rule model : List ℕ) (before after : Slices) → ((i : ℕ) → get_or model i 0 < 256) → (answer : SearchAnswer) (out : List ℕ) → line_room ≤ length out → length after.run ≡ pair_count
     → SearchRight rule model before after (told answer after.run) → LineFits (shown_length answer) after.run out
 unfolding states_text
-search_fits rule model before after bytes (Answered (Found long pairs) k) out l e x =
-    let f = found_short rule model before after bytes k long pairs (take long after.run) x refl in
-    let t = length-take long after.run in
-    record { room = l; run_there = omega (arith, f.0); run_short = omega (arith, f.0, f.1) }
-search_fits rule model before after bytes (Answered (Nothing pairs) k) out l e x = record { room = l; run_there = omega arith; run_short = omega arith }
-search_fits rule model before after bytes (Refused x) out l e r = record { room = l; run_there = omega arith; run_short = omega arith }
+search_fits rule model before after bytes (Ok a) out l e x = go a.searched.found a.searched.pairs x
+  where
+    go : (f : Option ℕ) (pairs : ℕ) → SearchRight rule model before after (answered a.rule (given_for f) (answer_for f pairs after.run)) → LineFits (given_for f) after.run out
+    go (Some long) pairs y =
+        let f = found_short rule model before after bytes a.rule long pairs (take long after.run) y refl in
+        let t = length-take long after.run in
+        record { room = l; run_there = omega (arith, f.0); run_short = omega (arith, f.0, f.1) }
+    go None pairs y = record { room = l; run_there = omega arith; run_short = omega arith }
+search_fits rule model before after bytes (Err x) out l e r = record { room = l; run_there = omega arith; run_short = omega arith }

@@ -3,7 +3,7 @@ use Prim.Native.Nat.{ℕ}
 use native.Mathlib.Omega.{arith}
 use mathlib.Core.Path.{◌≡◌, sym, ap₂, ◌∙◌}
 use mathlib.Core.List.{List}
-use Rattle.search.specs.declared.SearchAnswer.{SearchAnswer}
+use Rattle.search.specs.Answer.{SearchAnswer}
 use Rattle.search.specs.Answer.{Slices, told}
 use Rattle.search.proofs.Once.{one_search_answer}
 use Rattle.lines.specs.Text.{text_of}

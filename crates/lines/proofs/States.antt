@@ -6,7 +6,8 @@ use mathlib.Core.Path.{◌≡◌, refl, sym, ap, subst, ◌∙◌}
 use mathlib.Core.Bool.{Bool}
 use mathlib.Core.List.{List, [], ◌∷◌, ◌++◌, append_assoc, append-nil}
 use lib.ListN.{length, get_or, take, drop, length-append}
-use lib.Seq.{take-suc, take-add}
+use lib.Seq.{take-suc}
+use Rattle.std.proofs.lemmas.List.{take_all, take-append-drop}
 use Rattle.models.specs.Model.{Model, Walk}
 use Rattle.lines.specs.Text.{entry_text, states_text}
 use Rattle.writing.specs.Wrote.{Wrote}
@@ -30,14 +31,12 @@ states_one r i h =
     ∙ ap states_text (sym (take-suc r i 0 h) ∙ ap (λ (k : ℕ). take k r) (sym (add-one i)))
 
 -- what is written by then is a part of the whole
-pub states_room : (r : List ℕ) (i n : ℕ) → i ≤ n → length (states_text (take i r)) ≤ length (states_text (take n r))
-states_room r i n h =
-    let e : i + (n - i) ≡ n = omega arith in
-    let t : take n r ≡ take i r ++ take (n - i) (drop i r) = ap (λ (k : ℕ). take k r) (sym e) ∙ take-add i (n - i) r in
-    let l : length (states_text (take n r)) ≡ length (states_text (take i r)) + length (states_text (take (n - i) (drop i r))) =
-    ap (λ (z : List ℕ). length (states_text z)) t
-    ∙ ap length (states_append (take i r) (take (n - i) (drop i r)))
-    ∙ length-append (states_text (take i r)) (states_text (take (n - i) (drop i r))) in
+states_room : (r : List ℕ) (i : ℕ) → length (states_text (take i r)) ≤ length (states_text r)
+states_room r i =
+    let l : length (states_text (take i r)) + length (states_text (drop i r)) ≡ length (states_text r) =
+    sym (length-append (states_text (take i r)) (states_text (drop i r)))
+    ∙ ap length (sym (states_append (take i r) (drop i r)))
+    ∙ ap (λ (z : List ℕ). length (states_text z)) (take-append-drop i r) in
     omega arith
 
 -- a blank and at most two digits for each state
@@ -51,22 +50,22 @@ states_short M few ok (s ∷ r) w =
     omega arith
 
 -- writing them state by state
-module _ (r b : List ℕ) (at i n : ℕ) {o : List ℕ} {e : ℕ} (long : n ≤ length r) (room : at + length (states_text (take n r)) ≤ length b) (x : Wrote (states_text (take i r)) b at o e) where
-  pub state_room : i < n → e + length (entry_text (get_or r i 0)) ≤ length o
+module _ (r b : List ℕ) (at i : ℕ) {o : List ℕ} {e : ℕ} (room : at + length (states_text r) ≤ length b) (x : Wrote (states_text (take i r)) b at o e) where
+  pub state_room : i < length r → e + length (entry_text (get_or r i 0)) ≤ length o
   state_room h =
       let l : length (states_text (take i r)) + length (entry_text (get_or r i 0)) ≡ length (states_text (take (i + 1) r)) =
-      sym (length-append (states_text (take i r)) (entry_text (get_or r i 0))) ∙ ap length (states_one r i (omega arith)) in
-      let m = states_room r (i + 1) n (omega arith) in
+      sym (length-append (states_text (take i r)) (entry_text (get_or r i 0))) ∙ ap length (states_one r i h) in
+      let m = states_room r (i + 1) in
       let u = x.ends in
       let v = x.size in
       omega arith
 
-  pub state_turn : {o' : List ℕ} {e' : ℕ} → i < n → Wrote (entry_text (get_or r i 0)) o e o' e' → Wrote (states_text (take (i + 1) r)) b at o' e'
-  state_turn {o'} {e'} h y = subst (λ (p : List ℕ). Wrote p b at o' e') (states_one r i (omega arith)) (wrote_more (omega arith) x y)
+  pub state_turn : {o' : List ℕ} {e' : ℕ} → i < length r → Wrote (entry_text (get_or r i 0)) o e o' e' → Wrote (states_text (take (i + 1) r)) b at o' e'
+  state_turn {o'} {e'} h y = subst (λ (p : List ℕ). Wrote p b at o' e') (states_one r i h) (wrote_more (omega arith) x y)
 
 pub states_none : (r b : List ℕ) (at : ℕ) → Wrote (states_text (take 0 r)) b at b at
 unfolding states_text
 states_none r b at = wrote_none b at
 
-pub states_whole : (r b : List ℕ) (at i n : ℕ) {o : List ℕ} {e : ℕ} → i ≡ n → Wrote (states_text (take i r)) b at o e → Wrote (states_text (take n r)) b at o e
-states_whole r b at i n {o} {e} h x = subst (λ (k : ℕ). Wrote (states_text (take k r)) b at o e) h x
+pub states_whole : (r b : List ℕ) (at i : ℕ) {o : List ℕ} {e : ℕ} → length r ≤ i → Wrote (states_text (take i r)) b at o e → Wrote (states_text r) b at o e
+states_whole r b at i {o} {e} h x = subst (λ (z : List ℕ). Wrote (states_text z) b at o e) (take_all i r h) x

@@ -5,7 +5,7 @@ use mathlib.Core.List.{List}
 use lib.ListN.{length, get_or, length-replicate}
 use Rattle.levels.specs.Lent.{pair_count}
 use Rattle.automata.specs.IsTable.{Words}
-use Rattle.search.specs.declared.SearchAnswer.{SearchAnswer}
+use Rattle.search.specs.Answer.{SearchAnswer}
 use Rattle.search.specs.Answer.{Slices, told, SearchRight}
 use Rattle.lines.specs.Text.{text_of}
 use Rattle.lines.specs.Input.{rule_in_of, model_in_of}

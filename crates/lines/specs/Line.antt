@@ -3,7 +3,7 @@ use Rattle.std.specs.Prelude.{ℕ, ◌<◌, ◌≤◌, ◌≡◌, List, length, 
 use Rattle.automata.specs.Table.{table_entries}
 use Rattle.levels.specs.Lent.{pair_count}
 use Rattle.automata.specs.IsTable.{Words}
-use Rattle.search.specs.declared.SearchAnswer.{SearchAnswer}
+use Rattle.search.specs.Answer.{SearchAnswer}
 use Rattle.search.specs.Answer.{Slices, slices, told, SearchRight}
 use Rattle.lines.specs.Text.{text_of}
 use Rattle.lines.specs.Input.{rule_in_of, model_in_of}

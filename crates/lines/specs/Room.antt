@@ -1,9 +1,7 @@
 -- The room that a line takes. Assumes nothing: these are definitions.
-use Rattle.std.specs.Prelude.{ℕ, ◌+◌, ◌*◌, ◌≤◌, List, length, take}
+use Rattle.std.specs.Prelude.{ℕ, ◌+◌, ◌*◌, ◌≤◌, List, Ok, Err, length, take}
 use Rattle.rules.specs.Named.{proposition_count}
-use Rattle.search.specs.declared.SearchAnswer.{SearchAnswer}
-use Rattle.search.specs.declared.SearchAnswer.TheVariants.{Answered, Refused}
-use Rattle.search.specs.Answer.{given_length}
+use Rattle.search.specs.Answer.{SearchAnswer, given_length}
 use Rattle.levels.specs.Lent.{pair_count}
 use Rattle.lines.specs.Text.{states_text}
 
@@ -13,8 +11,8 @@ line_room = 16384
 
 -- how many states of the run an answer shows
 abbrev pub shown_length : SearchAnswer → ℕ
-shown_length (Answered searched known) = given_length searched
-shown_length (Refused x) = 0
+shown_length (Ok a) = given_length a.searched
+shown_length (Err x) = 0
 
 -- what the rule names takes no more than this: a word, and a blank and a digit for each proposition
 abbrev pub uses_room : ℕ

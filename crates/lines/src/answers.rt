@@ -8,7 +8,7 @@ ghost use Rattle.writing.specs.Wrote.{Wrote};
 ghost use Rattle.lines.specs.Room.{line_room, uses_room, shown_length, LineFits};
 
 use passes::inner::Searched;
-use search::SearchAnswer;
+use search::{Answered, Refusal};
 use writing::{put_byte, put_named, put_number, put_refused, put_word};
 
 const BLANK: u8 = 32;
@@ -36,36 +36,34 @@ fn put_entry(out: &mut [u8], at: usize, number: u8) -> usize
     put_number(out, past, number as u64)
 }
 
-// The first `long` states of a run.
-fn put_states(out: &mut [u8], at: usize, run: &[u8], long: usize) -> usize
-    requires { (long ≤ length run.now) × (at + length (states_text (take long run.now)) ≤ length out.old) }
-    ensures { Wrote (states_text (take long run.now)) out.old at out.new result }
+// The states of a run.
+fn put_states(out: &mut [u8], at: usize, run: &[u8]) -> usize
+    requires { at + length (states_text run.now) ≤ length out.old }
+    ensures { Wrote (states_text run.now) out.old at out.new result }
 {
     let mut end = at;
-    let mut i = 0;
-    while i < long {
-        end = put_entry(out, end, run[i]);
-        i += 1;
+    for &state in run {
+        end = put_entry(out, end, state);
     }
     end
 }
 
 // A colon, and the run.
-fn put_run(out: &mut [u8], at: usize, run: &[u8], long: usize) -> usize
-    requires { (long ≤ length run.now) × (at + length (colon ++ states_text (take long run.now)) ≤ length out.old) }
-    ensures { Wrote (colon ++ states_text (take long run.now)) out.old at out.new result }
+fn put_run(out: &mut [u8], at: usize, run: &[u8]) -> usize
+    requires { at + length (colon ++ states_text run.now) ≤ length out.old }
+    ensures { Wrote (colon ++ states_text run.now) out.old at out.new result }
 {
     let past = put_byte(out, at, COLON);
-    put_states(out, past, run, long)
+    put_states(out, past, run)
 }
 
-fn put_found(out: &mut [u8], run: &[u8], long: usize, pairs: usize) -> usize
-    requires { (long ≤ length run.now) × (length (found_text long (take long run.now) pairs) ≤ length out.old) }
-    ensures { Wrote (found_text long (take long run.now) pairs) out.old 0 out.new result }
+fn put_found(out: &mut [u8], run: &[u8], pairs: usize) -> usize
+    requires { length (found_text (length run.now) run.now pairs) ≤ length out.old }
+    ensures { Wrote (found_text (length run.now) run.now pairs) out.old 0 out.new result }
 {
-    let counted = put_named(out, 0, &FOUND, long as u64);
+    let counted = put_named(out, 0, &FOUND, run.len() as u64);
     let shown = put_named(out, counted, &PAIRS, pairs as u64);
-    put_run(out, shown, run, long)
+    put_run(out, shown, run)
 }
 
 fn put_none(out: &mut [u8], pairs: usize) -> usize
@@ -80,9 +78,10 @@ fn put_searched(out: &mut [u8], searched: Searched, run: &[u8]) -> usize
     requires { LineFits (given_length searched) run.now out.old }
     ensures { Wrote (searched_text (given_length searched) (answer_of searched run.now)) out.old 0 out.new result × (result + uses_room ≤ line_room) }
 {
-    match searched {
-        Searched::Found { long, pairs } => put_found(out, run, long, pairs),
-        Searched::Nothing { pairs } => put_none(out, pairs),
+    let pairs = searched.pairs;
+    match searched.found {
+        Some(long) => put_found(out, &run[..long], pairs),
+        None => put_none(out, pairs),
     }
 }
 
@@ -103,10 +102,8 @@ fn put_members(out: &mut [u8], at: usize, uses: u64) -> usize
     ensures { Wrote (members_text proposition_count uses) out.old at out.new result }
 {
     let mut end = at;
-    let mut number = 0;
-    while number < PROPOSITION_COUNT {
+    for number in 0..PROPOSITION_COUNT {
         end = put_member(out, end, uses, number);
-        number += 1;
     }
     end
 }
@@ -131,15 +128,15 @@ fn put_uses(out: &mut [u8], at: usize, uses: u64) -> usize
     put_set(out, past, uses)
 }
 
-pub fn put_answer(out: &mut [u8], answer: SearchAnswer, run: &[u8]) -> usize
+pub fn put_answer(out: &mut [u8], answer: Result<Answered, Refusal>, run: &[u8]) -> usize
     requires { LineFits (shown_length answer) run.now out.old }
     ensures { Wrote (text_of (told answer run.now)) out.old 0 out.new result }
 {
     match answer {
-        SearchAnswer::Answered { searched, rule } => {
-            let past = put_searched(out, searched, run);
-            put_uses(out, past, rule.uses)
+        Ok(a) => {
+            let past = put_searched(out, a.searched, run);
+            put_uses(out, past, a.rule.uses)
         }
-        SearchAnswer::Refused(x) => put_refused(out, x.number(), x.place()),
+        Err(x) => put_refused(out, x.number(), x.place()),
     }
 }

@@ -1,6 +1,5 @@
 pub mod Passes
 pub mod Columns
-pub mod Flags
 pub mod Straying
 pub mod Soundness
 pub mod Finish

@@ -9,9 +9,8 @@ use mathlib.Core.List.{List}
 use lib.Dec.{eqb, leb, ltb}
 use lib.ListN.{length, get_or}
 use borrow.Author.Tests.{lt-ltb, le-ltb, le-leb, lt-leb, eq-eqb, ne_eqb, leb-true, not-true}
+use Rattle.std.specs.Prelude.{Result, Ok, Err, ⊤}
 use Rattle.models.specs.declared.Refusal.{Refusal}
-use Rattle.models.specs.declared.ModelAnswer.{ModelAnswer}
-use Rattle.models.specs.declared.ModelAnswer.TheVariants.{Accepted, Refused}
 use Rattle.models.specs.Answer.{number, place, onward}
 use Rattle.models.specs.Reading.{Outcome, good, fault, demand, letter, successors, one_record, ended, records, straying, linked}
 use Rattle.models.specs.Model.{model_states}
@@ -100,16 +99,16 @@ module _ (s : List ℕ) where
       ap (λ (room : ℕ). records room s k) e ∙ one_more (64 - (k + 1)) k h
 
   -- a turn of the loop: what is left to read at state k is what was to be read at first
-  module _ (k : ℕ) (l : k < model_states) (h : 11 * k < length s) (r : ModelAnswer) (e : (on : Outcome) → one_record s (11 * k) on ≡ onward r on)
+  module _ (k : ℕ) (l : k < model_states) (h : 11 * k < length s) (r : Result ⊤ Refusal) (e : (on : Outcome) → one_record s (11 * k) on ≡ onward r on)
       (i : records (64 - k) s k ≡ records model_states s 0) where
     turned : onward r (records (64 - (k + 1)) s (k + 1)) ≡ records model_states s 0
     turned = sym (e (records (64 - (k + 1)) s (k + 1))) ∙ sym (records_next k l h) ∙ i
 
-    pub records_fault : (x : Refusal) → r ≡ Refused x → fault (number x) (place x) ≡ records model_states s 0
-    records_fault x q = ap (λ (r : ModelAnswer). onward r (records (64 - (k + 1)) s (k + 1))) (sym q) ∙ turned
+    pub records_fault : (x : Refusal) → r ≡ Err x → fault (number x) (place x) ≡ records model_states s 0
+    records_fault x q = ap (λ (r : Result ⊤ Refusal). onward r (records (64 - (k + 1)) s (k + 1))) (sym q) ∙ turned
 
-    pub records_on : r ≡ Accepted → records (64 - (k + 1)) s (k + 1) ≡ records model_states s 0
-    records_on q = ap (λ (r : ModelAnswer). onward r (records (64 - (k + 1)) s (k + 1))) (sym q) ∙ turned
+    pub records_on : (u : ⊤) → r ≡ Ok u → records (64 - (k + 1)) s (k + 1) ≡ records model_states s 0
+    records_on u q = ap (λ (r : Result ⊤ Refusal). onward r (records (64 - (k + 1)) s (k + 1))) (sym q) ∙ turned
 
 -- what a good end tells of the n states that were read from state k on
 pub record Counts (s : List ℕ) (room k n : ℕ) : Type 0 where

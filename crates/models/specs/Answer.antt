@@ -1,13 +1,9 @@
 -- What reading a model gives back, for every sequence of bytes: refusals 11 to 16, or the model. Assumes nothing: these are definitions.
-use Rattle.std.specs.Prelude.{ℕ, List}
+use Rattle.std.specs.Prelude.{ℕ, List, ⊤, Ok, Err}
+use Rattle.std.specs.Prelude as std
 use Rattle.models.specs.declared.Refusal.{Refusal}
 use Rattle.models.specs.declared.Refusal.TheVariants.{TooMany, WrongKind, CutShort, LetterTooLarge, WrongFlag, NoSuchState}
-use Rattle.models.specs.declared.ModelAnswer.{ModelAnswer}
-use Rattle.models.specs.declared.ModelAnswer.TheVariants.{Accepted, Refused}
 use Rattle.models.specs.declared.ModelData.{ModelData}
-use Rattle.models.specs.declared.ModelRead.{ModelRead}
-use Rattle.models.specs.declared.records.Counted.{Counted}
-use Rattle.models.specs.declared.records.Counted.TheVariants.{States, Fault}
 use Rattle.models.specs.Reading.{Outcome, good, fault, reading}
 use Rattle.models.specs.Stored.{stored, no_states}
 
@@ -49,19 +45,16 @@ given s (fault number place) = refused_as number place
 abbrev pub answer : List ℕ → Result
 answer s = given s (reading s)
 
--- the number and the values of each case of the answer
-abbrev pub verdict_of : ModelAnswer → Verdict
-verdict_of Accepted = accepted
-verdict_of (Refused x) = refused (number x) (place x)
-
-abbrev pub told : ModelRead → Result
-told r = record { verdict = verdict_of r.answer; model = r.model }
+-- the number and the values of each case of the answer: no state stands for a model that there is not
+abbrev pub told : std.Result ModelData Refusal → Result
+told (Ok m) = record { verdict = accepted; model = m }
+told (Err x) = refused_as (number x) (place x)
 
 -- the same in the middle of reading: how it goes on after a part that is in order, or at fault
-abbrev pub onward : ModelAnswer → Outcome → Outcome
-onward Accepted on = on
-onward (Refused x) on = fault (number x) (place x)
+abbrev pub onward : std.Result ⊤ Refusal → Outcome → Outcome
+onward (Ok x) on = on
+onward (Err x) on = fault (number x) (place x)
 
-abbrev pub counted : Counted → Outcome
-counted (States n) = good n
-counted (Fault x) = fault (number x) (place x)
+abbrev pub counted : std.Result ℕ Refusal → Outcome
+counted (Ok n) = good n
+counted (Err x) = fault (number x) (place x)

@@ -1,12 +1,12 @@
 // Reads a model of jobs in the house form: its states, or the first refusal with its place.
 #![tactic(auto)]
 
-ghost use Rattle.std.specs.Prelude.{◌≡◌};
+ghost use Rattle.std.specs.Prelude.{◌≡◌, IfOk};
 ghost use Rattle.models.specs.Stored.{Held};
-ghost use Rattle.models.specs.Answer.{number, place, refused_as, told, answer};
+ghost use Rattle.models.specs.Answer.{number, place, told, answer};
 
 use crate::layout::{MOST, RECORD};
-use crate::records::{Counted, count_states, links};
+use crate::records::{count_states, links};
 use crate::storing::model_of;
 
 mod layout; // where the bytes of a state stand
@@ -23,7 +23,7 @@ pub struct ModelData {
 }
 
 // Why a model is refused, and at which place of its bytes.
-#[derive(Clone, Copy)]
+#[derive(Clone, Copy, Debug, PartialEq, Eq)]
 pub enum Refusal {
     // a byte follows 64 good records
     TooMany,
@@ -69,50 +69,12 @@ impl Refusal {
     }
 }
 
-#[derive(Drop)]
-pub enum ModelAnswer {
-    Accepted,
-    Refused(Refusal),
-}
-
-// The answer, and the model beside it: one with no states where it is refused.
-#[derive(Drop)]
-pub struct ModelRead {
-    pub answer: ModelAnswer,
-    pub model: ModelData,
-}
-
-// A refusal comes with the model that has no states.
-fn refused(x: Refusal) -> ModelRead
-    ensures { told result ≡ refused_as (number x) (place x) }
-{
-    ModelRead {
-        answer: ModelAnswer::Refused(x),
-        model: ModelData {
-            states: 0,
-            letters: [0u8; 64],
-            initial: 0,
-            successors: [0u64; 64],
-        },
-    }
-}
-
 // Reads a whole model, and answers for all bytes: refusals 11 to 16, or the model.
-pub fn read_model(model: &[u8]) -> ModelRead
+pub fn read_model(model: &[u8]) -> Result<ModelData, Refusal>
     ensures answered { told result ≡ answer model.now }
-    ensures held { Held result.model }
+    ensures held { IfOk result (λ m. Held m) }
 {
-    match count_states(model) {
-        Counted::Fault(x) => refused(x),
-        Counted::States(n) => match links(model, n) {
-            ModelAnswer::Refused(x) => refused(x),
-            ModelAnswer::Accepted => {
-                let m = model_of(model, n);
-                ModelRead {
-                    answer: ModelAnswer::Accepted,
-                    model: m,
-                }
-            }
-        },
-    }
+    let n = count_states(model)?;
+    links(model, n)?;
+    Ok(model_of(model, n))
 }

@@ -4,6 +4,7 @@ use mathlib.Core.Path.{◌≡◌, refl, ap, ap₂, sym, subst, ◌∙◌}
 use mathlib.Core.Logic.{◌⊎◌}
 use mathlib.Core.List.{List, []}
 use native.Mathlib.Omega.{arith}
+use Rattle.std.specs.Prelude.{Option, Some, None}
 use lib.ListN.{length, get_or, take}
 use lib.Seq.{get_or-take, length-take-le}
 use Rattle.definitions.specs.Definition1.{Rule}
@@ -13,9 +14,8 @@ use Rattle.models.specs.Model.{Model}
 use Rattle.tables.specs.Beyond.{Beyond}
 use Rattle.tables.proofs.promise.Beyonds.{beyond_once}
 use Rattle.passes.specs.declared.inner.Searched.{Searched}
-use Rattle.passes.specs.declared.inner.Searched.TheVariants.{Found, Nothing}
 use Rattle.levels.specs.Lent.{pair_count, Cleared}
-use Rattle.passes.specs.Told.{answer_of, RunKept, SearchedTable}
+use Rattle.passes.specs.Told.{answer_for, answer_of, RunKept, SearchedTable}
 use Rattle.levels.specs.Right.{RunKind, Before, here, there, Count, none, counted, passed, Reached, Shown, Answer, found, nothing, Right}
 
 -- the order turned round fails, with the runs that it speaks of apart
@@ -67,6 +67,9 @@ cleared_same n a b d x y = beyond_once n a b d x.beyond y.beyond (λ i h. x.zero
 pub runs_same : (n : ℕ) (a b d : List ℕ) → Beyond n a b → Beyond n a d → take n b ≡ take n d → b ≡ d
 runs_same n a b d x y e = beyond_once n a b d x y (λ i h. sym (get_or-take n b i 0 h) ∙ ap (λ (l : List ℕ). get_or l i 0) e ∙ get_or-take n d i 0 h)
 
+the_searched : Option ℕ → ℕ → Searched
+the_searched l c = record { found = l; pairs = c }
+
 run_of : Answer → List ℕ
 run_of (found r c) = r
 run_of (nothing c) = []
@@ -75,16 +78,27 @@ pairs_of : Answer → ℕ
 pairs_of (found r c) = c
 pairs_of (nothing c) = c
 
-answers_same : (a b : Searched) (run run₁ run₂ : List ℕ) → answer_of a run₁ ≡ answer_of b run₂ → RunKept a run run₁ → RunKept b run run₂ → (a ≡ b) × (run₁ ≡ run₂)
-unfolding run_of pairs_of
-answers_same (Found l c) (Found k d) run run₁ run₂ e x y =
-    let p : c ≡ d = ap pairs_of e in
+found_same : (a b : Option ℕ) (c d : ℕ) (run run₁ run₂ : List ℕ) → answer_for a c run₁ ≡ answer_for b d run₂ → RunKept a run run₁ → RunKept b run run₂ → (a ≡ b) × (run₁ ≡ run₂)
+unfolding run_of
+found_same (Some l) (Some k) c d run run₁ run₂ e x y =
     let r : take l run₁ ≡ take k run₂ = ap run_of e in
     let h : l ≡ k = sym (length-take-le l run₁ x.0) ∙ ap length r ∙ length-take-le k run₂ y.0 in
-    (ap₂ Found h p, runs_same l run run₁ run₂ x.1 (subst (λ (i : ℕ). Beyond i run run₂) (sym h) y.1) (r ∙ ap (λ (i : ℕ). take i run₂) (sym h)))
-answers_same (Found l c) (Nothing d) run run₁ run₂ e x y = absurd (let z : ◌≡◌ {A = ℕ} 0 1 = cc in omega arith)
-answers_same (Nothing c) (Found k d) run run₁ run₂ e x y = absurd (let z : ◌≡◌ {A = ℕ} 0 1 = cc in omega arith)
-answers_same (Nothing c) (Nothing d) run run₁ run₂ e x y = (ap Nothing (ap pairs_of e), x ∙ sym y)
+    (ap Some h, runs_same l run run₁ run₂ x.1 (subst (λ (i : ℕ). Beyond i run run₂) (sym h) y.1) (r ∙ ap (λ (i : ℕ). take i run₂) (sym h)))
+found_same (Some l) None c d run run₁ run₂ e x y = absurd (let z : ◌≡◌ {A = ℕ} 0 1 = cc in omega arith)
+found_same None (Some k) c d run run₁ run₂ e x y = absurd (let z : ◌≡◌ {A = ℕ} 0 1 = cc in omega arith)
+found_same None None c d run run₁ run₂ e x y = (refl, x ∙ sym y)
+
+pairs_given : (a : Option ℕ) (c : ℕ) (run : List ℕ) → pairs_of (answer_for a c run) ≡ c
+unfolding pairs_of
+pairs_given (Some l) c run = refl
+pairs_given None c run = refl
+
+answers_same : (a b : Searched) (run run₁ run₂ : List ℕ) → answer_of a run₁ ≡ answer_of b run₂ → RunKept a.found run run₁ → RunKept b.found run run₂ → (a ≡ b) × (run₁ ≡ run₂)
+unfolding the_searched
+answers_same a b run run₁ run₂ e x y =
+    let f = found_same a.found b.found a.pairs b.pairs run run₁ run₂ e x y in
+    let p : a.pairs ≡ b.pairs = sym (pairs_given a.found a.pairs run₁) ∙ ap pairs_of e ∙ pairs_given b.found b.pairs run₂ in
+    (ap₂ the_searched f.0 p, f.1)
 
 module _ (Runs : RunKind) (M : Model) (A : Table) (f : Rule) (serves : Serves A f) (marks marks₁ marks₂ useful useful₁ useful₂ run run₁ run₂ : List ℕ) where
   -- the search over a table that serves a rule: one answer, and one content of everything that is lent

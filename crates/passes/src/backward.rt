@@ -5,35 +5,35 @@ ghost use Rattle.std.specs.Prelude.{◌≡◌, ℕ, ◌+◌, ◌*◌, ◌/◌, �
 ghost use Rattle.bits.specs.Word.{bit};
 ghost use Rattle.bits.specs.Says.{Says};
 ghost use Rattle.bits.specs.Sets.{Over, In};
-ghost use Rattle.automata.specs.Table.{table_states, table_entries};
+ghost use Rattle.automata.specs.Table.{table_states};
 ghost use Rattle.models.specs.Model.{model_states};
-ghost use Rattle.levels.specs.Lent.{model_in_of, table_in, LentLetters, pair_count};
-ghost use Rattle.levels.specs.inner.Passes.{view, Marked, Useful, PassInput, Workspace, useful_sets, NoSets, HasLetter};
+ghost use Rattle.levels.specs.Lent.{pair_count};
+ghost use Rattle.levels.specs.Through.{its_model, its_table};
+ghost use Rattle.levels.specs.inner.Passes.{view, Marked, Useful, useful_sets, NoSets};
 ghost use Rattle.levels.specs.inner.Waves.{Queued};
 ghost use Rattle.passes.specs.inner.Uses.{Meets, Keeps, Settles, flat};
 
 use automata::STATES;
-use levels::shape::{ForwardEnd, MODEL_STATES, Pair, Sizes};
+use bits::rising::members;
+use levels::searching::Searching;
+use levels::shape::{MODEL_STATES, Pair};
 
-// Whether letter and rows lead from q to a member of the set of t.
-fn meets(letters: &[u8], rows: &[u64], useful: &[u64], base: usize, q: usize, t: usize) -> bool
-    requires { HasLetter letters.now t × (table_entries ≤ length rows.now) × (base ≤ model_states) × (useful_sets ≤ length useful.now) × (q < table_states) }
-    ensures { Says result (Meets rows.now letters.now useful.now base q t) }
+// Whether the letter of t leads from q to a member of the set of t.
+fn meets(search: &Searching, useful: &[u64], base: usize, q: usize, t: usize) -> bool
+    requires { (t < search.now.sizes.states) × (base ≤ model_states) × (useful_sets ≤ length useful.now) × (q < table_states) }
+    ensures { Says result (Meets search.now.rows.now search.now.letters.now useful.now base q t) }
 {
-    let x = letters[t] as usize;
-    rows[STATES * x + q] & useful[base + t] != 0
+    let x = search.letters[t] as usize;
+    useful[base + t] & search.rows[STATES * x + q] != 0
 }
 
-// Whether some state of the set does.
-fn led(letters: &[u8], rows: &[u64], useful: &[u64], next: u64, base: usize, q: usize) -> bool
-    requires { ((t : ℕ) → T (bit next t) → HasLetter letters.now t) × (table_entries ≤ length rows.now) × (base ≤ model_states) × (useful_sets ≤ length useful.now) × (q < table_states) }
-    ensures { Says result (Over (In next) (Meets rows.now letters.now useful.now base q)) }
+// Whether that of some state of the set does.
+fn led(search: &Searching, useful: &[u64], next: u64, base: usize, q: usize) -> bool
+    requires { ((t : ℕ) → T (bit next t) → t < search.now.sizes.states) × (base ≤ model_states) × (useful_sets ≤ length useful.now) × (q < table_states) }
+    ensures { Says result (Over (In next) (Meets search.now.rows.now search.now.letters.now useful.now base q)) }
 {
-    let mut rest = next;
-    while rest != 0 {
-        let t = bits::lowest(rest);
-        rest = bits::without(rest, t);
-        if meets(letters, rows, useful, base, q, t) {
+    for t in members(next) {
+        if meets(search, useful, base, q, t) {
             return true;
         }
     }
@@ -41,41 +41,24 @@ fn led(letters: &[u8], rows: &[u64], useful: &[u64], next: u64, base: usize, q: 
 }
 
 // Whether a marked pair is useful, where finals are on the last level.
-fn keeps(
-    letters: &[u8],
-    successors: &[u64],
-    rows: &[u64],
-    useful: &[u64],
-    sizes: Sizes,
-    pair: Pair,
-    last: u16,
-) -> bool
-    requires { LentLetters letters.now sizes.states × (pair.state < length successors.now) × (table_entries ≤ length rows.now) × (useful_sets ≤ length useful.now) × (pair.in_table < table_states) }
-    ensures { Says result (Keeps rows.now letters.now successors.now useful.now sizes.states sizes.finals last pair.mark pair.state pair.in_table) }
+fn keeps(search: &Searching, useful: &[u64], pair: Pair, last: u16) -> bool
+    requires { (pair.state < search.now.sizes.states) × (useful_sets ≤ length useful.now) × (pair.in_table < table_states) }
+    ensures { Says result (Keeps search.now.rows.now search.now.letters.now search.now.successors.now useful.now search.now.sizes.states search.now.sizes.finals last pair.mark pair.state pair.in_table) }
 {
     let s = pair.state;
     let q = pair.in_table;
     if pair.mark == last {
-        return bits::has(sizes.finals, q);
+        return bits::has(search.sizes.finals, q);
     }
-    let next = successors[s] & bits::below(sizes.states);
+    let next = search.states_of(search.successors[s]);
     let base = MODEL_STATES * ((pair.mark as usize + 1) % 2);
-    led(letters, rows, useful, next, base, q)
+    led(search, useful, next, base, q)
 }
 
 // Settles the pair at a place.
-fn settle(
-    letters: &[u8],
-    successors: &[u64],
-    rows: &[u64],
-    marks: &[u16],
-    useful: &mut [u64],
-    sizes: Sizes,
-    at: usize,
-    last: u16,
-)
-    requires { LentLetters letters.now sizes.states × (at < pair_count) × (at / table_states < length successors.now) × (table_entries ≤ length rows.now) × (pair_count ≤ length marks.now) × (useful_sets ≤ length useful.old) }
-    ensures { Settles rows.now letters.now successors.now marks.now useful.old useful.new sizes.states sizes.finals last at }
+fn settle(search: &Searching, marks: &[u16], useful: &mut [u64], at: usize, last: u16)
+    requires { (at < pair_count) × (at / table_states < search.now.sizes.states) × (pair_count ≤ length marks.now) × (useful_sets ≤ length useful.old) }
+    ensures { Settles search.now.rows.now search.now.letters.now search.now.successors.now marks.now useful.old useful.new search.now.sizes.states search.now.sizes.finals last at }
 {
     let state = at / STATES;
     let in_table = at % STATES;
@@ -85,31 +68,18 @@ fn settle(
         in_table,
         mark,
     };
-    let yes = keeps(letters, successors, rows, useful, sizes, pair, last);
+    let yes = keeps(search, useful, pair, last);
     let place = MODEL_STATES * (mark as usize % 2) + state;
     useful[place] = bits::with_if(useful[place], in_table, yes);
 }
 
-// The pass, from the forward pass's end, on useful sets that are all empty.
-pub fn backward(
-    table: &[u64],
-    letters: &[u8],
-    successors: &[u64],
-    rows: &[u64],
-    marks: &[u16],
-    queue: &[u16],
-    useful: &mut [u64],
-    sizes: Sizes,
-    end: ForwardEnd,
-)
-    requires { PassInput sizes table.now letters.now rows.now × (sizes.states ≤ length successors.now) × Workspace marks.now queue.now × (useful_sets ≤ length useful.old) × NoSets useful.old × Marked (model_in_of sizes letters.now successors.now) (table_in sizes table.now) end.level end.count marks.now × Queued end.level marks.now queue.now end.count }
-    ensures { (length useful.new ≡ length useful.old) × Useful (model_in_of sizes letters.now successors.now) (table_in sizes table.now) end.level (view marks.now) 1 (view (flat marks.now useful.new)) }
+// The pass over the listed pairs, with finals on the last level, on useful sets that are all empty.
+pub fn backward(search: &Searching, marks: &[u16], listed: &[u16], useful: &mut [u64], last: u16)
+    requires { (pair_count ≤ length marks.now) × (useful_sets ≤ length useful.old) × NoSets useful.old × Marked (its_model search.now) (its_table search.now) last (length listed.now) marks.now × Queued last marks.now listed.now (length listed.now) }
+    ensures { (length useful.new ≡ length useful.old) × Useful (its_model search.now) (its_table search.now) last (view marks.now) 1 (view (flat marks.now useful.new)) }
 {
-    let last = end.level;
-    let mut i = end.count;
-    while 0 < i {
-        i -= 1;
-        let at = queue[i] as usize;
-        settle(letters, successors, rows, marks, useful, sizes, at, last);
+    for i in (0..listed.len()).rev() {
+        let at = listed[i] as usize;
+        settle(search, marks, useful, at, last);
     }
 }

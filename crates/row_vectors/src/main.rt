@@ -7,13 +7,12 @@ ghost use Rattle.walkers.specs.Steps.{told, step_of};
 ghost use Rattle.letter_rows.specs.Layouts.{table_by};
 
 use automata::{STATES, TABLE_ENTRIES};
-use letter_rows::{ConvertAnswer, rows_of, table_of};
+use letter_rows::{rows_of, table_of};
 use row_walkers::sequences::follow_rows;
 use row_walkers::{step_rows, step_rows_lent};
 use std::io;
-use tables::TableAnswer;
-use trims::TrimAnswer;
-use walkers::{FollowAnswer, Step, StepAnswer, Walker};
+use tables::Tabled;
+use walkers::{Step, Walker};
 
 // Two words more than a table takes.
 const LENT: usize = TABLE_ENTRIES + 2;
@@ -23,77 +22,38 @@ const EXAMPLE: [u8; 12] = *b"\x12\x10\x01\x00\x12\x17\x10\x01\x01\x10\x01\x02";
 
 // ---- what is printed
 
-fn print(rt: &impl Print, bytes: &[u8]) -> io::Result<()> {
-    rt.write_all(bytes)
+fn refused(rt: &impl Print, number: u64, place: usize) -> io::Result<()> {
+    print!(rt; "refused {number} at {place}")
 }
 
-fn number(rt: &impl Print, n: u64) -> io::Result<()> {
-    print!(rt; "{n}")
-}
-
-fn word(rt: &impl Print, w: u64) -> io::Result<()> {
-    print(rt, b" ")?;
-    print!(rt; "{w:016x}")
-}
-
-fn refused(rt: &impl Print, number_of: u64, place: usize) -> io::Result<()> {
-    print(rt, b"refused ")?;
-    number(rt, number_of)?;
-    print(rt, b" at ")?;
-    number(rt, place as u64)
-}
-
-fn matches(rt: &impl Print, yes: bool) -> io::Result<()> {
-    if yes {
-        print(rt, b"yes")?;
-    } else {
-        print(rt, b"no")?;
-    }
-    Ok(())
-}
-
-fn show_conversion(rt: &impl Print, answer: ConvertAnswer) -> io::Result<()> {
+fn show_conversion(rt: &impl Print, answer: Result<(), letter_rows::Refusal>) -> io::Result<()> {
     match answer {
-        ConvertAnswer::Converted => print(rt, b"converted")?,
-        ConvertAnswer::Refused(x) => refused(rt, x.number(), x.place())?,
+        Ok(()) => print!(rt; "converted"),
+        Err(x) => refused(rt, x.number(), x.place()),
     }
-    Ok(())
 }
 
-fn show_step(rt: &impl Print, answer: StepAnswer) -> io::Result<()> {
+// Whether a step or a sequence matches, or why there is none.
+fn show_answer(rt: &impl Print, answer: Result<bool, walkers::Refusal>) -> io::Result<()> {
     match answer {
-        StepAnswer::Moved(yes) => matches(rt, yes)?,
-        StepAnswer::Refused(x) => refused(rt, x.number(), x.place())?,
+        Ok(yes) => print!(rt; "{}", if yes { "yes" } else { "no" }),
+        Err(x) => refused(rt, x.number(), x.place()),
     }
-    Ok(())
-}
-
-fn show_end(rt: &impl Print, answer: FollowAnswer) -> io::Result<()> {
-    match answer {
-        FollowAnswer::Ended(yes) => matches(rt, yes)?,
-        FollowAnswer::Refused(x) => refused(rt, x.number(), x.place())?,
-    }
-    Ok(())
 }
 
 // What a walker holds.
 fn show_walker(rt: &impl Print, w: Walker) -> io::Result<()> {
-    word(rt, w.set)?;
-    word(rt, w.finals)?;
-    print(rt, b" taken ")?;
-    number(rt, w.taken as u64)?;
-    if w.matched {
-        print(rt, b" first ")?;
-    } else {
-        print(rt, b" none ")?;
-    }
-    number(rt, w.first as u64)
+    let first = if w.matched { "first" } else { "none" };
+    print!(rt;
+        " {:016x} {:016x} taken {} {first} {}",
+        w.set, w.finals, w.taken, w.first
+    )
 }
 
 // The word at a place, if there is one.
 fn show_word(rt: &impl Print, words: &[u64], at: usize) -> io::Result<()> {
-    if at < words.len() {
-        word(rt, words[at])?;
+    if let Some(w) = words.get(at) {
+        print!(rt; " {w:016x}")?;
     }
     Ok(())
 }
@@ -110,22 +70,19 @@ fn draw(z: u64) -> u64 {
 // Every word of the slice is drawn; of each bit three draws decide, so that about one in eight is set.
 fn fill(out: &mut [u64], seed: u64) {
     let mut z = seed;
-    for i in 0..out.len() {
+    for word in out {
         let a = draw(z);
         let b = draw(a);
         z = draw(b);
-        out[i] = a & b & z;
+        *word = a & b & z;
     }
 }
 
 // A number that depends on each of the first 4,096 words and on where it stands.
 fn digest(words: &[u64]) -> u64 {
     let mut d: u64 = 1;
-    for i in 0..TABLE_ENTRIES {
-        if words.len() <= i {
-            return d;
-        }
-        d = draw(d ^ words[i]);
+    for word in words.iter().take(TABLE_ENTRIES) {
+        d = draw(d ^ word);
     }
     d
 }
@@ -134,18 +91,16 @@ fn digest(words: &[u64]) -> u64 {
 
 // A few rows, the digest of all, and the two words past them.
 fn show_words(rt: &impl Print, words: &[u64]) -> io::Result<()> {
-    print(rt, b", digest")?;
-    word(rt, digest(words))?;
-    print(rt, b", at 0 1 64 2087 4095")?;
+    print!(rt; ", digest {:016x}, at 0 1 64 2087 4095", digest(words))?;
     show_word(rt, words, 0)?;
     show_word(rt, words, 1)?;
     show_word(rt, words, STATES)?;
     show_word(rt, words, 2087)?;
     show_word(rt, words, 4095)?;
-    print(rt, b", past them")?;
+    print!(rt; ", past them")?;
     show_word(rt, words, TABLE_ENTRIES)?;
     show_word(rt, words, TABLE_ENTRIES + 1)?;
-    print(rt, b"\n")
+    println!(rt; "")
 }
 
 // To rows and back into another slice.
@@ -155,12 +110,12 @@ fn there_and_back(
     rows: &mut [u64],
     back: &mut [u64],
 ) -> io::Result<()> {
-    print(rt, b"table")?;
+    print!(rt; "table")?;
     show_words(rt, table)?;
-    print(rt, b"to rows: ")?;
+    print!(rt; "to rows: ")?;
     show_conversion(rt, rows_of(table, rows))?;
     show_words(rt, rows)?;
-    print(rt, b"and back: ")?;
+    print!(rt; "and back: ")?;
     show_conversion(rt, table_of(rows, back))?;
     show_words(rt, back)
 }
@@ -172,35 +127,23 @@ fn back_and_there(
     table: &mut [u64],
     again: &mut [u64],
 ) -> io::Result<()> {
-    print(rt, b"rows")?;
+    print!(rt; "rows")?;
     show_words(rt, rows)?;
-    print(rt, b"to a table: ")?;
+    print!(rt; "to a table: ")?;
     show_conversion(rt, table_of(rows, table))?;
     show_words(rt, table)?;
-    print(rt, b"and back: ")?;
+    print!(rt; "and back: ")?;
     show_conversion(rt, rows_of(table, again))?;
     show_words(rt, again)
 }
 
-// Where the row for letter x and state p stands.
-fn place(x: usize, p: usize) -> usize {
-    if x < STATES {
-        if p < STATES {
-            return STATES * x + p;
-        }
-    }
-    TABLE_ENTRIES
-}
-
 // The rows of a letter for the first six states.
-fn show_rows(rt: &impl Print, rows: &[u64], x: usize) -> io::Result<()> {
-    print(rt, b"  letter ")?;
-    number(rt, x as u64)?;
-    print(rt, b":")?;
+fn show_rows(rt: &impl Print, rows: &[u64], x: u8) -> io::Result<()> {
+    print!(rt; "  letter {x}:")?;
     for p in 0..6 {
-        show_word(rt, rows, place(x, p))?;
+        show_word(rt, rows, STATES * x as usize + p)?;
     }
-    print(rt, b"\n")
+    println!(rt; "")
 }
 
 fn show_letters(rt: &impl Print, rows: &[u64]) -> io::Result<()> {
@@ -223,19 +166,19 @@ fn shortened(words: &[u64]) -> &[u64] {
 
 // A slice that is short is refused, as what is given and as what is to be written; `out` is one entry short of a table.
 fn short_slices(rt: &impl Print, given: &[u64], out: &mut [u64]) -> io::Result<()> {
-    print(rt, b"to short rows: ")?;
+    print!(rt; "to short rows: ")?;
     show_conversion(rt, rows_of(given, out))?;
-    print(rt, b"; to a short table: ")?;
+    print!(rt; "; to a short table: ")?;
     show_conversion(rt, table_of(given, out))?;
-    print(rt, b"; from a short table too: ")?;
+    print!(rt; "; from a short table too: ")?;
     show_conversion(rt, rows_of(shortened(given), out))?;
     show_words(rt, out)
 }
 
 fn short_given(rt: &impl Print, given: &[u64], out: &mut [u64]) -> io::Result<()> {
-    print(rt, b"from a short table: ")?;
+    print!(rt; "from a short table: ")?;
     show_conversion(rt, rows_of(shortened(given), out))?;
-    print(rt, b"; from short rows: ")?;
+    print!(rt; "; from short rows: ")?;
     show_conversion(rt, table_of(shortened(given), out))?;
     show_words(rt, out)
 }
@@ -251,24 +194,20 @@ fn lent(mut walker: Walker, rows: &[u64], letter: u8) -> Step
 }
 
 fn show_both(rt: &impl Print, s: Step) -> io::Result<()> {
-    let answer = s.answer;
-    let walker = s.walker;
-    show_step(rt, answer)?;
-    show_walker(rt, walker)?;
-    print(rt, b"\n")
+    show_answer(rt, s.answer)?;
+    show_walker(rt, s.walker)?;
+    println!(rt; "")
 }
 
 // One step over the table, over the rows, and over the rows where the walker stands.
 fn step(rt: &impl Print, table: &[u64], rows: &[u64], w: Walker, letter: u8) -> io::Result<()> {
-    print(rt, b"letter ")?;
-    number(rt, letter as u64)?;
-    print(rt, b" from")?;
+    print!(rt; "letter {letter} from")?;
     show_walker(rt, w)?;
-    print(rt, b"\n  table: ")?;
+    print!(rt; "\n  table: ")?;
     show_both(rt, w.step(table, letter))?;
-    print(rt, b"  rows:  ")?;
+    print!(rt; "  rows:  ")?;
     show_both(rt, step_rows(w, rows, letter))?;
-    print(rt, b"  lent:  ")?;
+    print!(rt; "  lent:  ")?;
     show_both(rt, lent(w, rows, letter))
 }
 
@@ -324,12 +263,11 @@ fn follow(
     finals: u64,
     letters: &[u8],
 ) -> io::Result<()> {
-    number(rt, letters.len() as u64)?;
-    print(rt, b" letters, table: ")?;
-    show_end(rt, walkers::follow(table, finals, letters))?;
-    print(rt, b", rows: ")?;
-    show_end(rt, follow_rows(rows, finals, letters))?;
-    print(rt, b"\n")
+    print!(rt; "{} letters, table: ", letters.len())?;
+    show_answer(rt, walkers::follow(table, finals, letters))?;
+    print!(rt; ", rows: ")?;
+    show_answer(rt, follow_rows(rows, finals, letters))?;
+    println!(rt; "")
 }
 
 fn sequences(rt: &impl Print, table: &[u64], rows: &[u64], finals: u64) -> io::Result<()> {
@@ -359,7 +297,7 @@ fn drawn(
     rows: &mut [u64],
     other: &mut [u64],
 ) -> io::Result<()> {
-    print(rt, b"drawn words\n")?;
+    println!(rt; "drawn words")?;
     fill(table, 11);
     fill(rows, 22);
     fill(other, 33);
@@ -375,7 +313,7 @@ fn drawn_rows(
     table: &mut [u64],
     other: &mut [u64],
 ) -> io::Result<()> {
-    print(rt, b"drawn words as rows\n")?;
+    println!(rt; "drawn words as rows")?;
     fill(rows, 44);
     fill(table, 55);
     back_and_there(rt, rows, table, other)?;
@@ -405,8 +343,8 @@ fn built(
     rows: &mut [u64],
     other: &mut [u64],
 ) -> io::Result<()> {
-    print(rt, b"the table of {p0;{{p1}[*];p2}}\n")?;
-    if let TableAnswer::Tabled { rule: _, finals } = tables::build(&EXAMPLE, table) {
+    println!(rt; "the table of {{p0;{{{{p1}}[*];p2}}}}")?;
+    if let Ok(Tabled { rule: _, finals }) = tables::build(&EXAMPLE, table) {
         walked(rt, table, rows, other, finals)?;
     }
     Ok(())
@@ -419,8 +357,8 @@ fn trimmed(
     rows: &mut [u64],
     other: &mut [u64],
 ) -> io::Result<()> {
-    print(rt, b"trimmed\n")?;
-    if let TrimAnswer::Trimmed(t) = trims::trim(table, 6, 32) {
+    println!(rt; "trimmed")?;
+    if let Ok(t) = trims::trim(table, 6, 32) {
         walked(rt, table, rows, other, t.finals)?;
     }
     Ok(())

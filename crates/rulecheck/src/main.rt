@@ -7,7 +7,6 @@ ghost use Rattle.rulecheck.specs.Printed.{Lent, PrintedFor};
 
 use lines::LINE_ROOM;
 use std::io;
-use streams::Input;
 use writing::front;
 
 // The length byte, a rule of 255 bytes and 705 of the model: what comes after never changes the line.
@@ -48,12 +47,11 @@ fn print(rt: &(impl Print + Eprint), bytes: &[u8]) {
 fn main(rt: HostRuntime) {
     let mut space = [0u8; INPUT_ROOM];
     let mut out = [0u8; OUTPUT_ROOM];
-    let input = streams::read_input(&mut rt.stdin(), &mut space);
-    match input {
-        Input::Whole(long) => {
+    match streams::read_input(&mut rt.stdin(), &mut space) {
+        Ok(long) => {
             let end = printed(&space, long, &mut out);
             print(&rt, &out[..end]);
         }
-        Input::Failed(error) => fail(&rt, INPUT_FAILED, error),
+        Err(error) => fail(&rt, INPUT_FAILED, error),
     }
 }

@@ -7,8 +7,7 @@ use mathlib.Core.List.{List, [], ◌∷◌}
 use lib.Dec.{leb}
 use lib.ListN.{drop}
 use Rattle.definitions.specs.declared.Refusal.{Refusal}
-use Rattle.rules.specs.declared.ends.Read.{Read}
-use Rattle.rules.specs.declared.ends.Read.TheVariants.{Ends, Refused}
+use Rattle.std.specs.Prelude.{Result, Ok, Err}
 use Rattle.definitions.specs.Definition1.{Formula, Rule, empty}
 use Rattle.definitions.specs.Definition2.{last_proposition}
 use Rattle.definitions.specs.Refusals.{number, place}
@@ -46,14 +45,14 @@ module _ (s : List ℕ) (at : ℕ) where
   rule_no_fault {r} {e} x a h =
       no_fault e x (drop e s) (sym (over_rule s a [] (λ v. empty)) ∙ h [] (λ v. empty)) (sym (over_rule s a (body ∷ []) (λ v i. empty)) ∙ h (body ∷ []) (λ v i. empty))
 
-  pub one_formula_end : (a b : Read) → FormulaRead s at a → FormulaRead s at b → a ≡ b
-  one_formula_end (Ends e) (Ends e') (f, p) (f', q) = ap Ends (formula_once s p f' e' q).1
-  one_formula_end (Ends e) (Refused y) (f, p) q = absurd (formula_no_fault y p q)
-  one_formula_end (Refused x) (Ends e) p (f, q) = absurd (formula_no_fault x q p)
-  one_formula_end (Refused x) (Refused y) p q = ap Refused (one_fault s at formula x y p q)
+  pub one_formula_end : (a b : Result ℕ Refusal) → FormulaRead s at a → FormulaRead s at b → a ≡ b
+  one_formula_end (Ok e) (Ok e') (f, p) (f', q) = ap Ok (formula_once s p f' e' q).1
+  one_formula_end (Ok e) (Err y) (f, p) q = absurd (formula_no_fault y p q)
+  one_formula_end (Err x) (Ok e) p (f, q) = absurd (formula_no_fault x q p)
+  one_formula_end (Err x) (Err y) p q = ap Err (one_fault s at formula x y p q)
 
-  pub one_rule_end : (a b : Read) → RuleRead s at a → RuleRead s at b → a ≡ b
-  one_rule_end (Ends e) (Ends e') (r, p) (r', q) = ap Ends (rule_once s p r' e' q).1
-  one_rule_end (Ends e) (Refused y) (r, p) q = absurd (rule_no_fault y p q)
-  one_rule_end (Refused x) (Ends e) p (r, q) = absurd (rule_no_fault x q p)
-  one_rule_end (Refused x) (Refused y) p q = ap Refused (one_fault s at rule x y p q)
+  pub one_rule_end : (a b : Result ℕ Refusal) → RuleRead s at a → RuleRead s at b → a ≡ b
+  one_rule_end (Ok e) (Ok e') (r, p) (r', q) = ap Ok (rule_once s p r' e' q).1
+  one_rule_end (Ok e) (Err y) (r, p) q = absurd (rule_no_fault y p q)
+  one_rule_end (Err x) (Ok e) p (r, q) = absurd (rule_no_fault x q p)
+  one_rule_end (Err x) (Err y) p q = ap Err (one_fault s at rule x y p q)

@@ -7,7 +7,7 @@ use lib.ListN.{length, drop_of_length-le}
 use lib.Seq.{drop-cons}
 use borrow.Author.Tests.{lt-ltb, le-ltb, le-leb, lt-leb}
 use Rattle.definitions.specs.declared.Refusal.{Refusal}
-use Rattle.rules.specs.declared.ends.Read.TheVariants.{Ends, Refused}
+use Rattle.std.specs.Prelude.{Ok, Err}
 use Rattle.rules.specs.declared.weights.Weighed.{Weighed}
 use Rattle.definitions.specs.Definition1.{Rule}
 use Rattle.rules.specs.Weight.{weight_of, weight_limit, counted_to}
@@ -36,17 +36,17 @@ module _ (s : List ℕ) where
     short : (o : Outcome) → parse s ≡ o → weighed o ≡ answer s
     short o q = ap weighed (sym q) ∙ rw (le-ltb _ _ h)
 
-    pub told_bad : (x : Refusal) → RuleRead s 0 (Refused x) → refused (number x) (place x) ≡ answer s
+    pub told_bad : (x : Refusal) → RuleRead s 0 (Err x) → refused (number x) (place x) ≡ answer s
     told_bad x p = short (shown x) (p [] (λ r. r))
 
-    pub told_left : (e : ℕ) → RuleRead s 0 (Ends e) → e < length s → refused 6 e ≡ answer s
+    pub told_left : (e : ℕ) → RuleRead s 0 (Ok e) → e < length s → refused 6 e ≡ answer s
     told_left e (r, d) l = short (fault 6 e) (over_rule s d [] (λ r. r) ∙ ap (λ (t : List ℕ). scan t [] r e) (drop-cons s e 0 l))
 
     whole : (e : ℕ) (r : Rule) → RuleAt s 0 r e → length s ≤ e → parse s ≡ good r
     whole e r d l = over_rule s d [] (λ r. r) ∙ ap (λ (t : List ℕ). scan t [] r e) (drop_of_length-le s l)
 
-    pub told_light : (e : ℕ) → RuleRead s 0 (Ends e) → length s ≤ e → (w : Weighed) → WeighedAs s 0 w → w.weight ≤ weight_limit → accepted (record { weight = w.weight; uses = w.uses }) ≡ answer s
+    pub told_light : (e : ℕ) → RuleRead s 0 (Ok e) → length s ≤ e → (w : Weighed) → WeighedAs s 0 w → w.weight ≤ weight_limit → accepted (record { weight = w.weight; uses = w.uses }) ≡ answer s
     told_light e (r, d) l w k u = sym (light_as r w.weight w.uses (k r e d).0 (k r e d).1 u) ∙ short (good r) (whole e r d l)
 
-    pub told_heavy : (e : ℕ) → RuleRead s 0 (Ends e) → length s ≤ e → (w : Weighed) → WeighedAs s 0 w → weight_limit < w.weight → refused 7 0 ≡ answer s
+    pub told_heavy : (e : ℕ) → RuleRead s 0 (Ok e) → length s ≤ e → (w : Weighed) → WeighedAs s 0 w → weight_limit < w.weight → refused 7 0 ≡ answer s
     told_heavy e (r, d) l w k u = sym (heavy_as r w.weight (k r e d).0 u) ∙ short (good r) (whole e r d l)

@@ -7,10 +7,9 @@ use mathlib.Core.List.{List}
 use lib.Dec.{eqb, ltb}
 use Rattle.definitions.specs.declared.Refusal.{Refusal}
 use Rattle.definitions.specs.declared.Refusal.TheVariants.{TooLong, Ended, UnknownKind, WrongSort, NoProposition, Leftover, TooHeavy, BadCounts}
-use Rattle.rules.specs.declared.RuleAnswer.{RuleAnswer}
-use Rattle.rules.specs.declared.RuleAnswer.TheVariants.{Accepted, Refused}
+use Rattle.std.specs.Prelude.{Ok, Err}
 use Rattle.definitions.specs.Refusals.{number, place}
-use Rattle.rules.specs.Answer.{Result, accepted, refused, answer, told}
+use Rattle.rules.specs.Answer.{Result, RuleAnswer, accepted, refused, answer, told}
 
 -- what is told determines what it was told of, where it can be taken back: the one law by which no second answer fits
 pub told_once : {A B : Type 0} (tell : A → B) (back : B → A) → ((a : A) → back (tell a) ≡ a) → (a b : A) → tell a ≡ tell b → a ≡ b
@@ -25,8 +24,8 @@ named n p =
     (cond (eqb n 4) (WrongSort p) (cond (eqb n 5) (NoProposition p) (cond (eqb n 6) (Leftover p) (cond (eqb n 7) TooHeavy (BadCounts p)))))))
 
 abbrev meant : Result → RuleAnswer
-meant (accepted k) = Accepted k
-meant (refused n p) = Refused (named n p)
+meant (accepted k) = Ok k
+meant (refused n p) = Err (named n p)
 
 named_told : (x : Refusal) → named (number x) (place x) ≡ x
 named_told TooLong = refl
@@ -61,8 +60,8 @@ pub handed_on_lem : {A : Type 0} (made : Refusal → A) (own : A) (x : Refusal) 
 handed_on_lem made own x = rw (of_a_rule x) (ap made (named_told x))
 
 meant_told : (a : RuleAnswer) → meant (told a) ≡ a
-meant_told (Accepted k) = refl
-meant_told (Refused x) = ap Refused (named_told x)
+meant_told (Ok k) = refl
+meant_told (Err x) = ap Err (named_told x)
 
 pub one_answer : (s : List ℕ) (a b : RuleAnswer) → told a ≡ answer s → told b ≡ answer s → a ≡ b
 one_answer s a b p q = told_once told meant meant_told a b (p ∙ sym q)

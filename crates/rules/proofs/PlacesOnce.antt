@@ -13,8 +13,7 @@ use Rattle.definitions.specs.declared.kinds.FormulaKind.{FormulaKind}
 use Rattle.definitions.specs.declared.kinds.Kind.{Kind}
 use Rattle.definitions.specs.declared.kinds.Kind.TheVariants.{OfFormula, OfRule, Unknown}
 use Rattle.definitions.specs.declared.Refusal.{Refusal}
-use Rattle.rules.specs.declared.ends.Read.{Read}
-use Rattle.rules.specs.declared.ends.Read.TheVariants.{Ends, Refused}
+use Rattle.std.specs.Prelude.{Result, Ok, Err}
 use Rattle.definitions.specs.Definition1.{Formula, prop, yea, nay, neg, join, Rule, letter, empty, two, again, counted, occurs}
 use Rattle.definitions.specs.Kinds.{kind_of}
 use Rattle.rules.specs.Reading.{good, fault, Need, body, Rest, scan}
@@ -160,10 +159,10 @@ stuck (b ∷ bs) e x p = go (leb b 5) (p (body ∷ []) (λ i. empty))
 
 module _ (s : List ℕ) (at : ℕ) where
   -- where a formula stands, reading it comes to its end
-  pub formula_read : (r : Read) → FormulaRead s at r → (f : Formula) (e : ℕ) → FormulaAt s at f e → r ≡ Ends e
-  formula_read (Ends e') (f', d') f e d = ap Ends (formula_once s d' f e d).1
-  formula_read (Refused x) p f e d = absurd (stuck (drop e s) e x (λ ns k. sym (over_formula s d ns (λ g. k)) ∙ p ns (λ g. k)))
+  pub formula_read : (r : Result ℕ Refusal) → FormulaRead s at r → (f : Formula) (e : ℕ) → FormulaAt s at f e → r ≡ Ok e
+  formula_read (Ok e') (f', d') f e d = ap Ok (formula_once s d' f e d).1
+  formula_read (Err x) p f e d = absurd (stuck (drop e s) e x (λ ns k. sym (over_formula s d ns (λ g. k)) ∙ p ns (λ g. k)))
 
-  pub rule_read : (r : Read) → RuleRead s at r → (r' : Rule) (e : ℕ) → RuleAt s at r' e → r ≡ Ends e
-  rule_read (Ends e') (r, d') r' e d = ap Ends (rule_once s d' r' e d).1
-  rule_read (Refused x) p r' e d = absurd (stuck (drop e s) e x (λ ns k. sym (over_rule s d ns (λ g. k)) ∙ p ns (λ g. k)))
+  pub rule_read : (r : Result ℕ Refusal) → RuleRead s at r → (r' : Rule) (e : ℕ) → RuleAt s at r' e → r ≡ Ok e
+  rule_read (Ok e') (r, d') r' e d = ap Ok (rule_once s d' r' e d).1
+  rule_read (Err x) p r' e d = absurd (stuck (drop e s) e x (λ ns k. sym (over_rule s d ns (λ g. k)) ∙ p ns (λ g. k)))

@@ -1,8 +1,7 @@
 -- What reading a whole rule comes to, for every string of bytes. Assumes nothing: these are definitions.
-use Rattle.std.specs.Prelude.{cond, ℕ, ◌≤◌, ◌≡◌, List, [], ◌∷◌, leb, ltb, length}
+use Rattle.std.specs.Prelude.{cond, ℕ, ◌≤◌, ◌≡◌, List, [], ◌∷◌, leb, ltb, length, Ok, Err, Result as Returned}
 use Rattle.rules.specs.declared.Known.{Known}
-use Rattle.rules.specs.declared.RuleAnswer.{RuleAnswer}
-use Rattle.rules.specs.declared.RuleAnswer.TheVariants.{Accepted, Refused}
+use Rattle.definitions.specs.declared.Refusal.{Refusal}
 use Rattle.definitions.specs.Definition1.{Rule}
 use Rattle.rules.specs.Weight.{weight_of, weight_limit}
 use Rattle.rules.specs.Named.{uses_of}
@@ -41,7 +40,11 @@ pub record AcceptedAs (s : List ℕ) (r : Rule) : Type 0 where
   pub spelt : parse s ≡ good r
   pub light : weight_of r ≤ weight_limit
 
+-- what reading a rule hands back
+abbrev pub RuleAnswer : Type 0
+RuleAnswer = Returned Known Refusal
+
 -- the paper's number and values for each case of the answer
 abbrev pub told : RuleAnswer → Result
-told (Accepted k) = accepted k
-told (Refused x) = refused (number x) (place x)
+told (Ok k) = accepted k
+told (Err x) = refused (number x) (place x)

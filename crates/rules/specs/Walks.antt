@@ -1,9 +1,7 @@
 -- What the walks over a rule's bytes promise of whatever stands at a place. Assumes nothing: these are definitions.
-use Rattle.std.specs.Prelude.{ℕ, ◌+◌, ◌<◌, ◌≤◌, min, ◌≡◌, List, ◌∷◌, length, get_or, drop}
+use Rattle.std.specs.Prelude.{ℕ, ◌+◌, ◌<◌, ◌≤◌, min, ◌≡◌, List, ◌∷◌, length, get_or, drop, Result, Ok, Err}
 use Rattle.bits.specs.Word.{word}
 use Rattle.definitions.specs.declared.Refusal.{Refusal}
-use Rattle.rules.specs.declared.ends.Read.{Read}
-use Rattle.rules.specs.declared.ends.Read.TheVariants.{Ends, Refused}
 use Rattle.rules.specs.declared.names.Names.{Names}
 use Rattle.rules.specs.declared.weights.Weighed.{Weighed}
 use Rattle.definitions.specs.Definition1.{Formula, Rule}
@@ -23,26 +21,21 @@ abbrev pub Fails : List ℕ → ℕ → Need → Refusal → Type 0
 Fails s at n x = (ns : List Need) (k : Value n → Rest ns) → scan (drop at s) (n ∷ ns) k at ≡ shown x
 
 -- reading at `at` comes to the end of what stands there, or to the first fault
-abbrev pub BodyRead : List ℕ → ℕ → Read → Type 0
-BodyRead s at (Ends e) = (at < length s) × (get_or s at 0 ≤ last_proposition) × (at + 1 ≡ e)
-BodyRead s at (Refused x) = Fails s at body x
+abbrev pub BodyRead : List ℕ → ℕ → Result ℕ Refusal → Type 0
+BodyRead s at (Ok e) = (at < length s) × (get_or s at 0 ≤ last_proposition) × (at + 1 ≡ e)
+BodyRead s at (Err x) = Fails s at body x
 
-abbrev pub CountsRead : List ℕ → ℕ → Read → Type 0
-CountsRead s at (Ends e) = (at + 1 < length s) × CountsFit (get_or s at 0) (get_or s (at + 1) 0) × (at + 2 ≡ e)
-CountsRead s at (Refused x) = Fails s at counts x
+abbrev pub CountsRead : List ℕ → ℕ → Result ℕ Refusal → Type 0
+CountsRead s at (Ok e) = (at + 1 < length s) × CountsFit (get_or s at 0) (get_or s (at + 1) 0) × (at + 2 ≡ e)
+CountsRead s at (Err x) = Fails s at counts x
 
-abbrev pub FormulaRead : List ℕ → ℕ → Read → Type 0
-FormulaRead s at (Ends e) = (f : Formula) × FormulaAt s at f e
-FormulaRead s at (Refused x) = Fails s at formula x
+abbrev pub FormulaRead : List ℕ → ℕ → Result ℕ Refusal → Type 0
+FormulaRead s at (Ok e) = (f : Formula) × FormulaAt s at f e
+FormulaRead s at (Err x) = Fails s at formula x
 
-abbrev pub RuleRead : List ℕ → ℕ → Read → Type 0
-RuleRead s at (Ends e) = (r : Rule) × RuleAt s at r e
-RuleRead s at (Refused x) = Fails s at rule x
-
--- the end that was read, 0 for a fault
-abbrev pub end_of : Read → ℕ
-end_of (Ends e) = e
-end_of (Refused x) = 0
+abbrev pub RuleRead : List ℕ → ℕ → Result ℕ Refusal → Type 0
+RuleRead s at (Ok e) = (r : Rule) × RuleAt s at r e
+RuleRead s at (Err x) = Fails s at rule x
 
 -- the set of the propositions that the formula names, and the end
 abbrev pub NamesAs : List ℕ → ℕ → Names → Type 0

@@ -9,7 +9,6 @@ pub mod names; // which propositions a formula names
 pub mod weights; // how many states a rule's table has, and which propositions the rule names
 
 use definitions::Refusal;
-use ends::Read;
 
 // A rule of more bytes is refused unread.
 const LONGEST_RULE: usize = 255;
@@ -17,42 +16,31 @@ const LONGEST_RULE: usize = 255;
 const WEIGHT_LIMIT: usize = 64;
 
 // What is known of an accepted rule: its weight, and the propositions that it names, bit i for proposition i.
-#[derive(Clone, Copy)]
+#[derive(Clone, Copy, Debug, PartialEq, Eq)]
 pub struct Known {
     pub weight: usize,
     pub uses: u64,
 }
 
-// What reading a rule comes to.
-#[derive(Drop)]
-pub enum RuleAnswer {
-    Accepted(Known),
-    Refused(Refusal),
-}
-
 // Reads a whole rule: any string of bytes has one answer.
-pub fn read_rule(rule: &[u8]) -> RuleAnswer
+pub fn read_rule(rule: &[u8]) -> Result<Known, Refusal>
     ensures { told result ≡ answer rule.now }
 {
     if LONGEST_RULE < rule.len() {
-        return RuleAnswer::Refused(Refusal::TooLong);
+        return Err(Refusal::TooLong);
     }
-    match ends::rule_end(rule, 0) {
-        Read::Refused(x) => RuleAnswer::Refused(x),
-        Read::Ends(e) => {
-            if e < rule.len() {
-                return RuleAnswer::Refused(Refusal::Leftover(e));
-            }
-            let w = weights::weight_at(rule, 0);
-            let weight = w.weight;
-            if weight <= WEIGHT_LIMIT {
-                RuleAnswer::Accepted(Known {
-                    weight,
-                    uses: w.uses,
-                })
-            } else {
-                RuleAnswer::Refused(Refusal::TooHeavy)
-            }
-        }
+    let end = ends::rule_end(rule, 0)?;
+    if end < rule.len() {
+        return Err(Refusal::Leftover(end));
+    }
+    let w = weights::weight_at(rule, 0);
+    let weight = w.weight;
+    if weight <= WEIGHT_LIMIT {
+        Ok(Known {
+            weight,
+            uses: w.uses,
+        })
+    } else {
+        Err(Refusal::TooHeavy)
     }
 }

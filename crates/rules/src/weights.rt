@@ -56,60 +56,55 @@ pub fn weight_at(rule: &[u8], at: usize) -> Weighed
     requires { GoodRule rule.now at }
     ensures { WeighedAs rule.now at result }
 {
-    match kind_of(rule[at]) {
-        Kind::Unknown => Weighed {
+    let Kind::OfRule(k) = kind_of(rule[at]) else {
+        return Weighed {
             weight: 0,
             uses: 0,
             end: at,
-        },
-        Kind::OfFormula(_) => Weighed {
-            weight: 0,
+        };
+    };
+    match k {
+        RuleKind::Letter => {
+            let f = names_at(rule, at + 1);
+            Weighed {
+                weight: 2,
+                uses: f.uses,
+                end: f.end,
+            }
+        }
+        RuleKind::Empty => Weighed {
+            weight: 1,
             uses: 0,
-            end: at,
+            end: at + 1,
         },
-        Kind::OfRule(k) => match k {
-            RuleKind::Letter => {
-                let f = names_at(rule, at + 1);
-                Weighed {
-                    weight: 2,
-                    uses: f.uses,
-                    end: f.end,
-                }
+        RuleKind::Again(_) => weight_at(rule, at + 1),
+        RuleKind::Two(p) => {
+            let a = weight_at(rule, at + 1);
+            let m = a.end;
+            let b = weight_at(rule, m);
+            Weighed {
+                weight: weight_of_pair(p, a.weight, b.weight),
+                uses: a.uses | b.uses,
+                end: b.end,
             }
-            RuleKind::Empty => Weighed {
-                weight: 1,
-                uses: 0,
-                end: at + 1,
-            },
-            RuleKind::Again(_) => weight_at(rule, at + 1),
-            RuleKind::Two(p) => {
-                let a = weight_at(rule, at + 1);
-                let m = a.end;
-                let b = weight_at(rule, m);
-                Weighed {
-                    weight: weight_of_pair(p, a.weight, b.weight),
-                    uses: a.uses | b.uses,
-                    end: b.end,
-                }
+        }
+        RuleKind::Counted => {
+            let c = counts_at(rule, at);
+            let a = weight_at(rule, at + 3);
+            Weighed {
+                weight: weight_of_row(c.high, a.weight),
+                uses: a.uses,
+                end: a.end,
             }
-            RuleKind::Counted => {
-                let c = counts_at(rule, at);
-                let a = weight_at(rule, at + 3);
-                Weighed {
-                    weight: weight_of_row(c.high, a.weight),
-                    uses: a.uses,
-                    end: a.end,
-                }
+        }
+        RuleKind::Occurs => {
+            let c = counts_at(rule, at);
+            let f = names_at(rule, at + 3);
+            Weighed {
+                weight: c.high + 2,
+                uses: f.uses,
+                end: f.end,
             }
-            RuleKind::Occurs => {
-                let c = counts_at(rule, at);
-                let f = names_at(rule, at + 3);
-                Weighed {
-                    weight: c.high + 2,
-                    uses: f.uses,
-                    end: f.end,
-                }
-            }
-        },
+        }
     }
 }

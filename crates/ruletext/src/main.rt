@@ -6,7 +6,6 @@ ghost use Rattle.std.specs.Prelude.{◌≤◌, length, take};
 ghost use Rattle.ruletext.specs.Printed.{Lent, PrintedFor};
 
 use std::io;
-use streams::Input;
 use text_lines::LINE_ROOM;
 use writing::front;
 
@@ -41,12 +40,11 @@ fn print(rt: &(impl Print + Eprint), bytes: &[u8]) {
 fn main(rt: HostRuntime) {
     let mut space = [0u8; INPUT_ROOM];
     let mut out = [0u8; LINE_ROOM];
-    let input = streams::read_input(&mut rt.stdin(), &mut space);
-    match input {
-        Input::Whole(long) => {
+    match streams::read_input(&mut rt.stdin(), &mut space) {
+        Ok(long) => {
             let end = printed(&space, long, &mut out);
             print(&rt, front(&out, end));
         }
-        Input::Failed(error) => fail(&rt, INPUT_FAILED, error),
+        Err(error) => fail(&rt, INPUT_FAILED, error),
     }
 }

@@ -3,34 +3,24 @@ ghost use Rattle.std.specs.Prelude.{◌≡◌, ◌≤◌, length};
 ghost use Rattle.bits.specs.Says.{Says};
 ghost use Rattle.automata.specs.Table.{table_of};
 ghost use Rattle.models.specs.Stored.{model_of, Held};
-ghost use Rattle.models.specs.Answer as models;
 ghost use Rattle.lasting.specs.Endless.{LastingRun};
 ghost use Rattle.levels.specs.Lent.{LentTable, pair_count};
 ghost use Rattle.passes.specs.Told.{SearchedTable};
 ghost use Rattle.search.specs.Answer.{slices, LongEnough};
 ghost use Rattle.search.specs.Input.{InputRight};
-ghost use Rattle.search.specs.inner.Inputs.{InputAnswers};
 
 use crate::Refusal;
 use automata::TABLE_ENTRIES;
 use lasting::alive::without_dead_ends;
 use levels::shape::{PAIRS, Sizes};
-use models::{ModelAnswer, ModelData};
+use models::ModelData;
 use passes::inner::{Searched, search_table};
-use rules::{Known, RuleAnswer};
+use rules::Known;
 
-// What reading comes to.
+// What is known of the rule, and the model that was read.
 #[derive(Drop)]
-pub enum InputAnswer {
-    // Rule and model are accepted and the slices are long enough: what is known of the rule.
-    Accepted(Known),
-    Refused(Refusal),
-}
-
-// The answer, and beside it the model: one with no states where it is refused.
-#[derive(Drop)]
-pub struct InputRead {
-    pub answer: InputAnswer,
+pub struct Input {
+    pub rule: Known,
     pub model: ModelData,
 }
 
@@ -50,25 +40,7 @@ fn long_enough(table: &[u64], marks: &[u16], useful: &[u16], run: &[u8]) -> bool
     PAIRS <= run.len()
 }
 
-// The rule is read, and its refusals come before the model's, and these before a short slice.
-fn input_answer(rule: &[u8], model: ModelAnswer, long: bool) -> InputAnswer
-    ensures { InputAnswers rule.now model long result }
-{
-    match rules::read_rule(rule) {
-        RuleAnswer::Refused(x) => InputAnswer::Refused(Refusal::OfRule(x)),
-        RuleAnswer::Accepted(known) => match model {
-            ModelAnswer::Refused(x) => InputAnswer::Refused(Refusal::OfModel(x)),
-            ModelAnswer::Accepted => {
-                if long {
-                    return InputAnswer::Accepted(known);
-                }
-                InputAnswer::Refused(Refusal::ShortSlice)
-            }
-        },
-    }
-}
-
-// Reads the rule and the model and measures the slices: all refusals of a call that searches.
+// Reads the rule and the model and measures the slices: all refusals of a call that searches, the rule's before the model's, and these before a short slice.
 pub fn read_input(
     rule: &[u8],
     model: &[u8],
@@ -76,18 +48,18 @@ pub fn read_input(
     marks: &[u16],
     useful: &[u16],
     run: &[u8],
-) -> InputRead
+) -> Result<Input, Refusal>
     ensures { InputRight rule.now model.now (slices table.now marks.now useful.now run.now) result }
 {
-    let read = models::read_model(model);
-    let long = long_enough(table, marks, useful, run);
-    let of_model = read.answer;
-    let answer = input_answer(rule, of_model, long);
-    let stored = read.model;
-    InputRead {
-        answer,
-        model: stored,
+    let known = rules::read_rule(rule)?;
+    let stored = models::read_model(model)?;
+    if !long_enough(table, marks, useful, run) {
+        return Err(Refusal::ShortSlice);
     }
+    Ok(Input {
+        rule: known,
+        model: stored,
+    })
 }
 
 // Searches the model that was read over a table of so many states. Only runs that can be continued for ever count: the states from which

@@ -1,5 +1,5 @@
 // A string of bytes that is put together part by part in a lent slice. Each answers the place after what it put; what does not fit is left out.
-pub fn put_byte(out: &mut [u8], at: usize, b: u8) -> usize {
+fn put_byte(out: &mut [u8], at: usize, b: u8) -> usize {
     if at < out.len() {
         out[at] = b;
         return at + 1;
@@ -9,8 +9,8 @@ pub fn put_byte(out: &mut [u8], at: usize, b: u8) -> usize {
 
 pub fn put(out: &mut [u8], at: usize, part: &[u8]) -> usize {
     let mut end = at;
-    for i in 0..part.len() {
-        end = put_byte(out, end, part[i]);
+    for b in part {
+        end = put_byte(out, end, *b);
     }
     end
 }

@@ -1,24 +1,10 @@
 // Large models, put together state by state.
-use crate::bytes::put_byte;
+use crate::bytes::put;
 
-const WORD_BYTES: usize = 8;
-
-// A word's bytes, the lowest first.
-fn put_word(out: &mut [u8], at: usize, word: u64) -> usize {
-    let mut end = at;
-    let mut rest = word;
-    for _ in 0..WORD_BYTES {
-        end = put_byte(out, end, (rest % 256) as u8);
-        rest = rest / 256;
-    }
-    end
-}
-
+// The successors' bytes come last, the lowest first.
 fn put_state(out: &mut [u8], at: usize, letter: u8, flag: u8, successors: u64) -> usize {
-    let end = put_byte(out, at, 0x20);
-    let end = put_byte(out, end, letter);
-    let end = put_byte(out, end, flag);
-    put_word(out, end, successors)
+    let end = put(out, at, &[0x20, letter, flag]);
+    put(out, end, &successors.to_le_bytes())
 }
 
 // State k of a ring: it leads to the next, 63 to 0. State 0 is initial, and p0 holds in state 33 alone.

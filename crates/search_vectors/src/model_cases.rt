@@ -1,61 +1,49 @@
 // The boundary cases of the model reader.
 use crate::bytes::{front, put, put_many};
 use crate::show;
-use models::ModelAnswer;
 use std::io;
 
-fn read(rt: &impl Print, name: &[u8], model: &[u8]) -> io::Result<()> {
-    show::text(rt, name)?;
-    show::text(rt, b": ")?;
-    let m = models::read_model(model);
-    let answer = m.answer;
-    match answer {
-        ModelAnswer::Accepted => {
-            let states = m.model.states;
-            show::text(rt, b"states ")?;
-            show::number(rt, states as u64)?;
-            show::text(rt, b", initial ")?;
-            show::number(rt, m.model.initial)?;
-            show::text(rt, b"\n")?;
-        }
-        ModelAnswer::Refused(x) => show::refused(rt, x.number(), x.place())?,
+fn read(rt: &impl Print, name: &str, model: &[u8]) -> io::Result<()> {
+    print!(rt; "{name}: ")?;
+    match models::read_model(model) {
+        Ok(m) => println!(rt; "states {}, initial {}", m.states, m.initial),
+        Err(x) => show::refused(rt, x.number(), x.place()),
     }
-    Ok(())
 }
 
 // A state with letter 63 that is initial and has state 0 alone for its successor.
 const RECORD: [u8; 11] = *b"\x20\x3F\x01\x01\x00\x00\x00\x00\x00\x00\x00";
 
 fn counts(rt: &impl Print, space: &mut [u8]) -> io::Result<()> {
-    read(rt, b"no bytes", b"")?;
+    read(rt, "no bytes", b"")?;
     let n = put_many(space, 0, &RECORD, 64);
-    read(rt, b"64 records", front(space, n))?;
+    read(rt, "64 records", front(space, n))?;
     let n = put(space, n, b"\x00");
-    read(rt, b"705 bytes", front(space, n))
+    read(rt, "705 bytes", front(space, n))
 }
 
 fn refusals(rt: &impl Print) -> io::Result<()> {
-    read(rt, b"kind 21", b"\x21")?;
-    read(rt, b"a kind and no more", b"\x20")?;
-    read(rt, b"a letter and no more", b"\x20\x3F")?;
+    read(rt, "kind 21", b"\x21")?;
+    read(rt, "a kind and no more", b"\x20")?;
+    read(rt, "a letter and no more", b"\x20\x3F")?;
     read(
         rt,
-        b"a record that lacks its last byte",
+        "a record that lacks its last byte",
         b"\x20\x3F\x01\x01\x00\x00\x00\x00\x00\x00",
     )?;
-    read(rt, b"letter 64, cut short", b"\x20\x40")?;
-    read(rt, b"flag 2, cut short", b"\x20\x00\x02")
+    read(rt, "letter 64, cut short", b"\x20\x40")?;
+    read(rt, "flag 2, cut short", b"\x20\x00\x02")
 }
 
 // Successors are looked at after all records, the lowest state first.
 fn successors(rt: &impl Print, space: &mut [u8]) -> io::Result<()> {
     let n = put(space, 0, &RECORD);
     let n = put(space, n, b"\x20\x00\x00\x02\x00\x00\x00\x00\x00\x00\x80");
-    read(rt, b"successor 63 of 2 states", front(space, n))?;
+    read(rt, "successor 63 of 2 states", front(space, n))?;
     let n = put(space, n, b"\x20\x00\x02");
     read(
         rt,
-        b"the same, with flag 2 in the record after it",
+        "the same, with flag 2 in the record after it",
         front(space, n),
     )
 }
@@ -63,7 +51,7 @@ fn successors(rt: &impl Print, space: &mut [u8]) -> io::Result<()> {
 pub fn run(rt: &impl Print, space: &mut [u8]) -> io::Result<()> {
     read(
         rt,
-        b"the worked model",
+        "the worked model",
         b"\x20\x01\x01\x02\x00\x00\x00\x00\x00\x00\x00\x20\x02\x00\x06\x00\x00\x00\x00\x00\x00\x00\x20\x04\x00\x00\x00\x00\x00\x00\x00\x00\x00",
     )?;
     counts(rt, space)?;

@@ -3,7 +3,7 @@ use crate::bytes::{front, put, put_many};
 use crate::model_bytes::{put_full, put_ring};
 use crate::show;
 use passes::inner::Searched;
-use search::SearchAnswer;
+use search::{Answered, Refusal};
 use std::io;
 
 // A run of more states is not printed state by state.
@@ -27,198 +27,136 @@ const FORK: [u8; 33] =
 const CROSSED: [u8; 33] =
     *b"\x20\x01\x01\x06\x00\x00\x00\x00\x00\x00\x00\x20\x04\x00\x02\x00\x00\x00\x00\x00\x00\x00\x20\x02\x00\x04\x00\x00\x00\x00\x00\x00\x00";
 
-fn show_run(rt: &impl Print, run: &[u8], n: usize) -> io::Result<()> {
-    for i in 0..n {
-        if i < run.len() {
-            show::text(rt, b" ")?;
-            show::byte(rt, run[i])?;
+fn found(rt: &impl Print, run: &[u8], long: usize, pairs: usize) -> io::Result<()> {
+    print!(rt; "found {long} pairs {pairs}")?;
+    if long <= PRINTED {
+        print!(rt; ":")?;
+        for state in run.iter().take(long) {
+            print!(rt; " {state}")?;
         }
     }
-    Ok(())
-}
-
-fn found(rt: &impl Print, run: &[u8], long: usize, pairs: usize) -> io::Result<()> {
-    show::text(rt, b"found ")?;
-    show::number(rt, long as u64)?;
-    show::text(rt, b" pairs ")?;
-    show::number(rt, pairs as u64)?;
-    if long <= PRINTED {
-        show::text(rt, b":")?;
-        show_run(rt, run, long)?;
-    }
-    show::text(rt, b"\n")
+    println!(rt; "")
 }
 
 fn searched(rt: &impl Print, answer: Searched, run: &[u8]) -> io::Result<()> {
-    match answer {
-        Searched::Found { long, pairs } => found(rt, run, long, pairs)?,
-        Searched::Nothing { pairs } => {
-            show::text(rt, b"none pairs ")?;
-            show::number(rt, pairs as u64)?;
-            show::text(rt, b"\n")?;
-        }
+    match answer.found {
+        Some(long) => found(rt, run, long, answer.pairs),
+        None => println!(rt; "none pairs {}", answer.pairs),
     }
-    Ok(())
 }
 
-fn answered(rt: &impl Print, answer: SearchAnswer, run: &[u8]) -> io::Result<()> {
+fn answered(rt: &impl Print, answer: Result<Answered, Refusal>, run: &[u8]) -> io::Result<()> {
     match answer {
-        SearchAnswer::Answered {
-            searched: x,
-            rule: _,
-        } => searched(rt, x, run)?,
-        SearchAnswer::Refused(x) => show::refused(rt, x.number(), x.place())?,
+        Ok(
+            Answered {
+                searched: x,
+                rule: _,
+            },
+        ) => searched(rt, x, run),
+        Err(x) => show::refused(rt, x.number(), x.place()),
     }
-    Ok(())
 }
 
 // Whether the entries from a to b all are v.
-fn words_are(s: &[u64], a: usize, b: usize, v: u64) -> bool {
-    for i in a..b {
-        if i < s.len() {
-            if s[i] != v {
-                return false;
-            }
-        }
-    }
-    true
-}
-
-fn marks_are(s: &[u16], a: usize, b: usize, v: u16) -> bool {
-    for i in a..b {
-        if i < s.len() {
-            if s[i] != v {
-                return false;
-            }
-        }
-    }
-    true
-}
-
-fn bytes_are(s: &[u8], a: usize, b: usize, v: u8) -> bool {
-    for i in a..b {
-        if i < s.len() {
-            if s[i] != v {
-                return false;
-            }
-        }
-    }
-    true
+fn are<T: Copy + PartialEq>(s: &[T], a: usize, b: usize, v: T) -> bool {
+    s.iter().take(b).skip(a).all(|x| *x == v)
 }
 
 // How many entries of the output a search may write.
 fn written(answer: Searched) -> usize {
-    match answer {
-        Searched::Found { long, pairs: _ } => long,
-        Searched::Nothing { pairs: _ } => 0,
-    }
+    answer.found.unwrap_or(0)
 }
 
 // The working slices are 0 in their first 4,096 entries, and all that lies past what was written is 7 as before.
 fn kept(table: &[u64], marks: &[u16], useful: &[u16], run: &[u8], n: usize) -> bool {
-    if !words_are(table, 4096, 4100, 7) {
-        return false;
-    }
-    if !marks_are(marks, 0, 4096, 0) {
-        return false;
-    }
-    if !marks_are(useful, 0, 4096, 0) {
-        return false;
-    }
-    if !marks_are(marks, 4096, 4100, 7) {
-        return false;
-    }
-    if !marks_are(useful, 4096, 4100, 7) {
-        return false;
-    }
-    bytes_are(run, n, 4100, 7)
+    are(table, 4096, 4100, 7)
+        && are(marks, 0, 4096, 0)
+        && are(useful, 0, 4096, 0)
+        && are(marks, 4096, 4100, 7)
+        && are(useful, 4096, 4100, 7)
+        && are(run, n, 4100, 7)
 }
 
 // Nothing was written at all.
 fn untouched(table: &[u64], marks: &[u16], useful: &[u16], run: &[u8]) -> bool {
-    if !words_are(table, 0, 4100, 7) {
-        return false;
-    }
-    if !marks_are(marks, 0, 4100, 7) {
-        return false;
-    }
-    if !marks_are(useful, 0, 4100, 7) {
-        return false;
-    }
-    bytes_are(run, 0, 4100, 7)
+    are(table, 0, 4100, 7)
+        && are(marks, 0, 4100, 7)
+        && are(useful, 0, 4100, 7)
+        && are(run, 0, 4100, 7)
 }
 
 fn left_as_promised(
-    answer: SearchAnswer,
+    answer: Result<Answered, Refusal>,
     table: &[u64],
     marks: &[u16],
     useful: &[u16],
     run: &[u8],
 ) -> bool {
     match answer {
-        SearchAnswer::Answered {
-            searched: x,
-            rule: _,
-        } => kept(table, marks, useful, run, written(x)),
-        SearchAnswer::Refused(_) => untouched(table, marks, useful, run),
+        Ok(
+            Answered {
+                searched: x,
+                rule: _,
+            },
+        ) => kept(table, marks, useful, run, written(x)),
+        Err(_) => untouched(table, marks, useful, run),
     }
 }
 
 // Each search is lent slices of its own that are longer than it asks for, filled with 7.
-fn search(rt: &impl Print, name: &[u8], rule: &[u8], model: &[u8]) -> io::Result<()> {
+fn search(rt: &impl Print, name: &str, rule: &[u8], model: &[u8]) -> io::Result<()> {
     let mut table = [7u64; 4100];
     let mut marks = [7u16; 4100];
     let mut useful = [7u16; 4100];
     let mut run = [7u8; 4100];
     let answer = search::search(rule, model, &mut table, &mut marks, &mut useful, &mut run);
-    show::text(rt, name)?;
-    show::text(rt, b": ")?;
+    print!(rt; "{name}: ")?;
     answered(rt, answer, &run)?;
-    show::text(rt, b"  lent slices as promised: ")?;
+    print!(rt; "  lent slices as promised: ")?;
     show::yes_or_no(rt, left_as_promised(answer, &table, &marks, &useful, &run))
 }
 
 fn small(rt: &impl Print) -> io::Result<()> {
     search(
         rt,
-        b"three states",
+        "three states",
         b"\x12\x10\x01\x00\x12\x17\x10\x01\x01\x10\x01\x02",
         &THREE,
     )?;
     search(
         rt,
-        b"three states, without the way to the last",
+        "three states, without the way to the last",
         b"\x12\x10\x01\x00\x12\x17\x10\x01\x01\x10\x01\x02",
         &WITHOUT_WAY,
     )?;
     search(
         rt,
-        b"no states",
+        "no states",
         b"\x12\x10\x01\x00\x12\x17\x10\x01\x01\x10\x01\x02",
         b"",
     )?;
     search(
         rt,
-        b"no initial state",
+        "no initial state",
         b"\x12\x10\x01\x00\x12\x17\x10\x01\x01\x10\x01\x02",
         &WITHOUT_INITIAL,
     )?;
-    search(rt, b"a rule of the empty sequence alone", b"\x11", &THREE)?;
+    search(rt, "a rule of the empty sequence alone", b"\x11", &THREE)?;
     search(
         rt,
-        b"a dead end, which closes no run",
+        "a dead end, which closes no run",
         b"\x10\x01\x00",
         b"\x20\x01\x01\x00\x00\x00\x00\x00\x00\x00\x00",
     )?;
     search(
         rt,
-        b"two runs that are equally short",
+        "two runs that are equally short",
         b"\x12\x10\x01\x00\x10\x01\x01",
         &FORK,
     )?;
     search(
         rt,
-        b"the set of table states is needed",
+        "the set of table states is needed",
         b"\x14\x12\x10\x01\x00\x10\x01\x01\x12\x10\x01\x00\x10\x01\x02",
         &CROSSED,
     )
@@ -230,20 +168,20 @@ fn ring(rt: &impl Print, rule: &mut [u8], model: &mut [u8]) -> io::Result<()> {
     let n = put_many(rule, n, b"\x12\x10\x02", 30);
     let n = put(rule, n, b"\x10\x02\x10\x01\x00");
     let m = put_ring(model);
-    search(rt, b"a ring of 64 states", front(rule, n), front(model, m))
+    search(rt, "a ring of 64 states", front(rule, n), front(model, m))
 }
 
 fn full(rt: &impl Print, model: &mut [u8]) -> io::Result<()> {
     let m = put_full(model);
     search(
         rt,
-        b"all of 64 states",
+        "all of 64 states",
         b"\x12\x10\x01\x00\x12\x17\x10\x01\x01\x10\x01\x02",
         front(model, m),
     )?;
     search(
         rt,
-        b"all of 64 states, by a rule that nothing matches",
+        "all of 64 states, by a rule that nothing matches",
         b"\x12\x10\x02\x12\x16\x10\x01\x00\x10\x04\x01\x00\x10\x02",
         front(model, m),
     )
@@ -251,13 +189,13 @@ fn full(rt: &impl Print, model: &mut [u8]) -> io::Result<()> {
 
 // The rule's refusals come before the model's, and both before 21.
 fn refusals(rt: &impl Print) -> io::Result<()> {
-    search(rt, b"no rule and no model", b"", b"\x00")?;
-    search(rt, b"no model", b"\x11", b"\x00")?;
+    search(rt, "no rule and no model", b"", b"\x00")?;
+    search(rt, "no model", b"\x11", b"\x00")?;
     let mut few = [0u64; 4095];
     let mut marks = [0u16; 4096];
     let mut useful = [0u16; 4096];
     let mut run = [0u8; 4096];
-    show::text(rt, b"a table slice that is one entry short: ")?;
+    print!(rt; "a table slice that is one entry short: ")?;
     answered(
         rt,
         search::search(b"\x11", b"", &mut few, &mut marks, &mut useful, &mut run),

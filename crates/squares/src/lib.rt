@@ -25,9 +25,8 @@ fn round(from: &[u64], to: &mut [u64], r: usize, half: usize, low: u64)
     requires { (length from.now ≡ side) × (length to.old ≡ side) × Half r half low }
     ensures { Round r from.now to.new side }
 {
-    for i in 0..SIDE {
-        let v = mix(from, i, r, half, low);
-        to[i] = v;
+    for (i, word) in to.iter_mut().enumerate() {
+        *word = mix(from, i, r, half, low);
     }
 }
 
@@ -36,12 +35,7 @@ fn empty(block: &[u64]) -> bool
     requires { length block.now ≡ side }
     ensures { Says result (Empty block.now) }
 {
-    for i in 0..SIDE {
-        if block[i] != 0 {
-            return false;
-        }
-    }
-    true
+    block.iter().all(|word| *word == 0)
 }
 
 // All rounds: bit j of word i becomes bit i of word j.

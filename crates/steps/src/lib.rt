@@ -8,6 +8,8 @@ ghost use Rattle.steps.specs.Moves.{row_of, advanced};
 
 use automata::STATES;
 use automata::step::in_label;
+use bits::rising::members;
+use bits::those::those;
 
 pub mod rows; // a table's rows by letter
 
@@ -16,15 +18,7 @@ fn row(table: &[u64], p: usize, letter: u8) -> u64
     requires { (table_entries ≤ length table.now) × (p < table_states) × (letter < letter_count) }
     ensures { result ≡ row_of table.now p letter }
 {
-    let mut reached: u64 = 0;
-    let mut q: usize = 0;
-    while q < STATES {
-        if in_label(table, p, q, letter as usize) {
-            reached |= 1u64 << q;
-        }
-        q += 1;
-    }
-    reached
+    those(STATES, |q| in_label(table, p, q, letter as usize))
 }
 
 // The states that some member of the set reaches under the letter: a row for each member, and no other.
@@ -33,11 +27,8 @@ pub fn advance(table: &[u64], set: u64, letter: u8) -> u64
     ensures { result ≡ advanced table.now set letter }
 {
     let mut reached: u64 = 0;
-    let mut rest = set;
-    while rest != 0 {
-        let p = bits::lowest(rest);
+    for p in members(set) {
         reached |= row(table, p, letter);
-        rest = bits::without(rest, p);
     }
     reached
 }

@@ -8,6 +8,7 @@ ghost use Rattle.steps.specs.inner.Puts.{Adds, Extended, RowPuts, Scatters};
 
 use automata::STATES;
 use automata::cells::get;
+use bits::rising::members;
 
 // The union of the words that stand at `base` + k for the members k of the set.
 pub fn union(words: &[u64], base: usize, set: u64) -> u64
@@ -15,10 +16,7 @@ pub fn union(words: &[u64], base: usize, set: u64) -> u64
     ensures { Members result (λ q. Over (In set) (λ k. T (bit (get_or words.now (base + k) 0) q))) }
 {
     let mut out: u64 = 0;
-    let mut rest = set;
-    while rest != 0 {
-        let k = bits::lowest(rest);
-        rest = bits::without(rest, k);
+    for k in members(set) {
         out |= words[base + k];
     }
     out
@@ -36,10 +34,7 @@ fn scatter(rows: &mut [u64], p: usize, to: u64, label: u64)
     requires { (table_entries ≤ length rows.old) × (p < table_states) }
     ensures { Adds rows.old rows.new (Scatters p to label) }
 {
-    let mut rest = label;
-    while rest != 0 {
-        let x = bits::lowest(rest);
-        rest = bits::without(rest, x);
+    for x in members(label) {
         rows[STATES * x + p] |= to;
     }
 }

@@ -6,9 +6,9 @@ use mathlib.Core.Bool.{true, false}
 use mathlib.Core.List.{List, [], ◌∷◌}
 use lib.ListN.{length, drop}
 use borrow.Author.Tests.{lt-ltb, le-ltb}
+use Rattle.std.specs.Prelude.{Ok, Err}
 use Rattle.definitions.specs.Definition1.{Formula}
 use Rattle.systems.specs.declared.Refusal.{Refusal}
-use Rattle.systems.specs.declared.ends.Read.TheVariants.{Ends, Refused}
 use Rattle.systems.specs.Kinds.{step_mark}
 use Rattle.systems.specs.Refusals.{number, place}
 use Rattle.systems.specs.Reading.{Outcome, good, fault, mark, formula, scan, parse}
@@ -32,16 +32,16 @@ module _ (s : List ℕ) where
     short : (o : Outcome) → parse s ≡ o → placed o ≡ answer s
     short o q = ap placed (sym q) ∙ rw (le-ltb _ _ h)
 
-    pub told_bad_start : (x : Refusal) → StartRead s (Refused x) → refused (number x) (place x) ≡ answer s
+    pub told_bad_start : (x : Refusal) → StartRead s (Err x) → refused (number x) (place x) ≡ answer s
     told_bad_start x p = short (shown x) (p (formula true ∷ []) (λ i f m g. good f g))
 
-    pub told_bad_step : (step : ℕ) → StartRead s (Ends step) → (x : Refusal) → FormulaRead s true step (Refused x) → refused (number x) (place x) ≡ answer s
+    pub told_bad_step : (step : ℕ) → StartRead s (Ok step) → (x : Refusal) → FormulaRead s true step (Err x) → refused (number x) (place x) ≡ answer s
     told_bad_step step (f, a) x p = short (shown x) (over_start a ∙ p [] (λ g. good f g))
 
-    pub told_left : (step : ℕ) → StartRead s (Ends step) → (e : ℕ) → FormulaRead s true step (Ends e) → e < length s → refused 6 e ≡ answer s
+    pub told_left : (step : ℕ) → StartRead s (Ok step) → (e : ℕ) → FormulaRead s true step (Ok e) → e < length s → refused 6 e ≡ answer s
     told_left step (f, a) e (g, d) l = short (fault 6 e) (over_start a ∙ over_formula s d [] (λ g. good f g) ∙ left_over s e (good f g) l)
 
-    pub told_whole : (step : ℕ) → StartRead s (Ends step) → (e : ℕ) → FormulaRead s true step (Ends e) → length s ≤ e → accepted step ≡ answer s
+    pub told_whole : (step : ℕ) → StartRead s (Ok step) → (e : ℕ) → FormulaRead s true step (Ok e) → length s ≤ e → accepted step ≡ answer s
     told_whole step (f, a) e (g, d) l =
         let n = formula_long a.first in
         let q = a.second_mark.ends in

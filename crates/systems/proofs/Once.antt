@@ -4,11 +4,11 @@ use mathlib.Core.Path.{◌≡◌, refl, sym, ap, ap₂, ◌∙◌}
 use mathlib.Core.Bool.{cond}
 use mathlib.Core.List.{List}
 use lib.Dec.{eqb}
+use Rattle.std.specs.Prelude.{Ok, Err}
+use Rattle.std.specs.Prelude as std
 use Rattle.rules.proofs.Once.{told_once}
 use Rattle.systems.specs.declared.Refusal.{Refusal}
 use Rattle.systems.specs.declared.Refusal.TheVariants.{TooLong, Ended, UnknownKind, WrongSort, NoProposition, Leftover}
-use Rattle.systems.specs.declared.SystemAnswer.{SystemAnswer}
-use Rattle.systems.specs.declared.SystemAnswer.TheVariants.{Accepted, Refused}
 use Rattle.systems.specs.Refusals.{number, place}
 use Rattle.systems.specs.Answer.{Result, accepted, refused, answer, told}
 
@@ -28,13 +28,13 @@ named_told (Leftover p) = refl
 pub one_refusal : (x y : Refusal) → number x ≡ number y → place x ≡ place y → x ≡ y
 one_refusal x y n p = sym (named_told x) ∙ ap₂ named n p ∙ named_told y
 
-abbrev meant : Result → SystemAnswer
-meant (accepted p) = Accepted p
-meant (refused n p) = Refused (named n p)
+abbrev meant : Result → std.Result ℕ Refusal
+meant (accepted p) = Ok p
+meant (refused n p) = Err (named n p)
 
-meant_told : (a : SystemAnswer) → meant (told a) ≡ a
-meant_told (Accepted p) = refl
-meant_told (Refused x) = ap Refused (named_told x)
+meant_told : (a : std.Result ℕ Refusal) → meant (told a) ≡ a
+meant_told (Ok p) = refl
+meant_told (Err x) = ap Err (named_told x)
 
-pub one_answer : (s : List ℕ) (a b : SystemAnswer) → told a ≡ answer s → told b ≡ answer s → a ≡ b
+pub one_answer : (s : List ℕ) (a b : std.Result ℕ Refusal) → told a ≡ answer s → told b ≡ answer s → a ≡ b
 one_answer s a b p q = told_once told meant meant_told a b (p ∙ sym q)

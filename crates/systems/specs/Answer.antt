@@ -1,8 +1,8 @@
 -- What reading a whole system comes to, for every string of bytes. Assumes nothing: these are definitions.
-use Rattle.std.specs.Prelude.{cond, ℕ, ◌+◌, ◌≤◌, ◌≡◌, List, ltb, length}
+use Rattle.std.specs.Prelude.{cond, ℕ, ◌+◌, ◌≤◌, ◌≡◌, List, ltb, length, Ok, Err}
+use Rattle.std.specs.Prelude as std
 use Rattle.definitions.specs.Definition1.{Formula}
-use Rattle.systems.specs.declared.SystemAnswer.{SystemAnswer}
-use Rattle.systems.specs.declared.SystemAnswer.TheVariants.{Accepted, Refused}
+use Rattle.systems.specs.declared.Refusal.{Refusal}
 use Rattle.systems.specs.Refusals.{number, place}
 use Rattle.systems.specs.Reading.{Outcome, good, fault, parse}
 use Rattle.systems.specs.Spelling.{spell_f}
@@ -31,6 +31,6 @@ pub record AcceptedAs (s : List ℕ) (f g : Formula) : Type 0 where
   pub read : parse s ≡ good f g
 
 -- the paper's number and values for each case of the answer
-abbrev pub told : SystemAnswer → Result
-told (Accepted p) = accepted p
-told (Refused x) = refused (number x) (place x)
+abbrev pub told : std.Result ℕ Refusal → Result
+told (Ok p) = accepted p
+told (Err x) = refused (number x) (place x)

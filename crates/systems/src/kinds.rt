@@ -1,10 +1,10 @@
 // What a kind byte says in a system: the rules' table of kinds, and three of its own.
 ghost use Rattle.std.specs.Prelude.{◌≡◌};
-ghost use Rattle.systems.specs.Kinds.{kind_of, of_rules_of};
+ghost use Rattle.systems.specs.Kinds.{kind_of};
 
 use definitions::kinds::{FormulaKind, Kind};
 
-#[derive(Drop)]
+#[derive(Clone, Copy, Debug, PartialEq, Eq)]
 pub enum SystemKind {
     // a formula's, in both formulas
     Plain(FormulaKind),
@@ -16,13 +16,18 @@ pub enum SystemKind {
 }
 
 // What a kind of the rules' table is here.
-fn of_rules(kind: Kind) -> SystemKind
-    ensures { result ≡ of_rules_of kind }
-{
-    match kind {
-        Kind::OfFormula(k) => SystemKind::Plain(k),
-        Kind::OfRule(_) => SystemKind::Elsewhere,
-        Kind::Unknown => SystemKind::Nothing,
+impl From<Kind> for SystemKind {
+    ghost use Rattle.std.specs.Prelude.{◌≡◌};
+    ghost use Rattle.systems.specs.Kinds.{of_rules_of};
+
+    ghost from_gives = { λ kind s. s ≡ of_rules_of kind };
+
+    fn from(kind: Kind) -> SystemKind {
+        match kind {
+            Kind::OfFormula(k) => SystemKind::Plain(k),
+            Kind::OfRule(_) => SystemKind::Elsewhere,
+            Kind::Unknown => SystemKind::Nothing,
+        }
     }
 }
 
@@ -33,6 +38,6 @@ pub fn kind_of(byte: u8) -> SystemKind
         0x07 => SystemKind::Next,
         0x30 => SystemKind::Elsewhere,
         0x31 => SystemKind::Elsewhere,
-        _ => of_rules(definitions::kinds::kind_of(byte)),
+        _ => SystemKind::from(definitions::kinds::kind_of(byte)),
     }
 }

@@ -8,13 +8,13 @@ ghost use Rattle.systems.specs.Answer.{told, answer};
 pub mod kinds; // what a kind byte says here
 mod ends; // where a mark or a formula that begins at a place ends, or its first fault
 
-use ends::{Read, formula_end, step_start};
+use ends::{formula_end, step_start};
 
 // A system of more bytes is refused unread.
 const LONGEST_SYSTEM: usize = 255;
 
 // Why a system is refused, and at which place of its bytes.
-#[derive(Clone, Copy)]
+#[derive(Clone, Copy, Debug, PartialEq, Eq)]
 pub enum Refusal {
     // there are too many bytes
     TooLong,
@@ -60,31 +60,17 @@ impl Refusal {
     }
 }
 
-// What reading a system comes to.
-#[derive(Drop)]
-pub enum SystemAnswer {
-    // The first formula stands at 1, the step's at this place.
-    Accepted(usize),
-    Refused(Refusal),
-}
-
-// Reads a whole system: any string of bytes has one answer.
-pub fn read_system(system: &[u8]) -> SystemAnswer
+// Reads a whole system: any string of bytes has one answer. The first formula stands at 1, the step's at the place that is given.
+pub fn read_system(system: &[u8]) -> Result<usize, Refusal>
     ensures { told result ≡ answer system.now }
 {
     if LONGEST_SYSTEM < system.len() {
-        return SystemAnswer::Refused(Refusal::TooLong);
+        return Err(Refusal::TooLong);
     }
-    match step_start(system) {
-        Read::Refused(x) => SystemAnswer::Refused(x),
-        Read::Ends(step) => match formula_end(system, step, true) {
-            Read::Refused(x) => SystemAnswer::Refused(x),
-            Read::Ends(e) => {
-                if e < system.len() {
-                    return SystemAnswer::Refused(Refusal::Leftover(e));
-                }
-                SystemAnswer::Accepted(step)
-            }
-        },
+    let step = step_start(system)?;
+    let end = formula_end(system, step, true)?;
+    if end < system.len() {
+        return Err(Refusal::Leftover(end));
     }
+    Ok(step)
 }

@@ -1,11 +1,11 @@
 -- What building a table comes to, for every string of bytes and every slice. Assumes nothing: these are definitions.
-use Rattle.std.specs.Prelude.{ℕ, ◌^◌, ◌<◌, ◌≤◌, ◌≡◌, List, length}
+use Rattle.std.specs.Prelude.{ℕ, ◌^◌, ◌<◌, ◌≤◌, ◌≡◌, List, length, Ok, Err, Result as Returned}
 use Rattle.rules.specs.declared.Known.{Known}
 use Rattle.definitions.specs.Definition1.{Rule}
 use Rattle.definitions.specs.Numbers.{short_slice_number}
 use Rattle.rules.specs.Answer.{answer, AcceptedAs, known_of}
-use Rattle.tables.specs.declared.TableAnswer.{TableAnswer}
-use Rattle.tables.specs.declared.TableAnswer.TheVariants.{Tabled, Refused}
+use Rattle.tables.specs.declared.Tabled.{Tabled}
+use Rattle.tables.specs.declared.Refusal.{Refusal}
 use Rattle.tables.specs.Refusals.{number, place}
 use Rattle.automata.specs.Table.{table_entries}
 use Rattle.tables.specs.Beyond.{Beyond}
@@ -16,10 +16,14 @@ pub data Result : Type 0 where
   tabled : Known → ℕ → Result
   refused : ℕ → ℕ → Result
 
+-- what building hands back
+abbrev pub TableAnswer : Type 0
+TableAnswer = Returned Tabled Refusal
+
 -- the paper's number and values for each case of the answer
 abbrev pub told : TableAnswer → Result
-told (Tabled k f) = tabled k f
-told (Refused x) = refused (number x) (place x)
+told (Ok t) = tabled t.rule t.finals
+told (Err x) = refused (number x) (place x)
 
 -- the right result for the rule's bytes s and the slice t, which is t' after the call: the rule's own refusal, then 21, and the slice as it was;
 -- else the slice begins with the rule's table and is as it was past it

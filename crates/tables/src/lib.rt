@@ -7,13 +7,14 @@ ghost use Rattle.rules.specs.Answer.{AcceptedAs};
 ghost use Rattle.automata.specs.Table.{table_entries};
 ghost use Rattle.tables.specs.Refusals.{number, place};
 ghost use Rattle.tables.specs.Answer.{told, BuildRight, TableFor};
+ghost use Rattle.tables.specs.declared.Refusal.TheVariants.{OfRule};
 
 use automata::{STATES, TABLE_ENTRIES};
 use definitions::numbers::SHORT_SLICE;
-use rules::{Known, RuleAnswer};
+use rules::Known;
 
 // Why no table is built.
-#[derive(Clone, Copy)]
+#[derive(Clone, Copy, Debug, PartialEq, Eq)]
 pub enum Refusal {
     // the rule's own
     OfRule(definitions::Refusal),
@@ -43,12 +44,19 @@ impl Refusal {
     }
 }
 
-// What building a table comes to.
-#[derive(Drop)]
-pub enum TableAnswer {
-    // The slice begins with the table: what is known of the rule, and the set of its final states.
-    Tabled { rule: Known, finals: u64 },
-    Refused(Refusal),
+impl From<definitions::Refusal> for Refusal {
+    ghost from_gives = { λ x r. r ≡ OfRule x };
+
+    fn from(refusal: definitions::Refusal) -> Refusal {
+        Refusal::OfRule(refusal)
+    }
+}
+
+// What is known of a table that the slice begins with: what is known of its rule, and the set of its final states.
+#[derive(Clone, Copy, Debug, PartialEq, Eq)]
+pub struct Tabled {
+    pub rule: Known,
+    pub finals: u64,
 }
 
 // Builds the table of a rule that is accepted in a slice that is long enough, and answers the set of its final states.
@@ -62,20 +70,16 @@ pub fn build_accepted(rule: &[u8], table: &mut [u64]) -> u64
 }
 
 // Builds the rule's table in the slice: any string of bytes and any slice have one answer, and a refusal leaves the slice as it was.
-pub fn build(rule: &[u8], table: &mut [u64]) -> TableAnswer
+pub fn build(rule: &[u8], table: &mut [u64]) -> Result<Tabled, Refusal>
     ensures { BuildRight rule.now table.old table.new (told result) }
 {
-    match rules::read_rule(rule) {
-        RuleAnswer::Refused(x) => TableAnswer::Refused(Refusal::OfRule(x)),
-        RuleAnswer::Accepted(known) => {
-            if table.len() < TABLE_ENTRIES {
-                return TableAnswer::Refused(Refusal::ShortTable);
-            }
-            let finals = build_accepted(rule, table);
-            TableAnswer::Tabled {
-                rule: known,
-                finals,
-            }
-        }
+    let known = rules::read_rule(rule)?;
+    if table.len() < TABLE_ENTRIES {
+        return Err(Refusal::ShortTable);
     }
+    let finals = build_accepted(rule, table);
+    Ok(Tabled {
+        rule: known,
+        finals,
+    })
 }

@@ -8,11 +8,11 @@ use Rattle.rules.specs.declared.Known.{Known}
 use Rattle.definitions.specs.Encoding.{spell}
 use Rattle.rules.specs.Answer.{known_of}
 use Rattle.texts.specs.declared.TextRefusal.{TextRefusal}
-use Rattle.texts.specs.declared.TextAnswer.{TextAnswer}
-use Rattle.texts.specs.declared.TextAnswer.TheVariants.{Given, Refused}
+use Rattle.std.specs.Prelude.{Ok, Err}
+use Rattle.texts.specs.declared.Given.{Given}
 use Rattle.texts.specs.Refusals as refusals
 use Rattle.texts.specs.Answer as texts
-use Rattle.texts.specs.Answer.{Result, refused, told, Gives, ReadRight}
+use Rattle.texts.specs.Answer.{TextAnswer, Result, refused, told, Gives, ReadRight}
 use Rattle.writing.specs.Wrote.{Wrote}
 use Rattle.writing.specs.Refused.{refused_text}
 use Rattle.writing.proofs.Wrotes.{wrote_more}
@@ -27,13 +27,13 @@ module _ (answer : TextAnswer) (bytes : List ℕ) {before after : List ℕ} {end
   says : {t : List ℕ} → t ≡ answer_text (told answer) bytes → length t < line_room → Wrote t before 0 after end → Put (told answer) bytes before after end
   says e l w = record { wrote = subst (λ (t : List ℕ). Wrote t before 0 after end) e w; short = let k = w.ends in omega arith }
 
-  pub refused_says : (x : TextRefusal) {n p : ℕ} → answer ≡ Refused x → n ≡ refusals.number x → p ≡ refusals.place x → n < 2 ^ 64 → p < 2 ^ 64 → Wrote (refused_text n p) before 0 after end
+  pub refused_says : (x : TextRefusal) {n p : ℕ} → answer ≡ Err x → n ≡ refusals.number x → p ≡ refusals.place x → n < 2 ^ 64 → p < 2 ^ 64 → Wrote (refused_text n p) before 0 after end
       → Put (told answer) bytes before after end
   refused_says x {n} {p} e a b h l w = says (ap₂ refused_text a b ∙ sym (ap (λ (z : TextAnswer). answer_text (told z) bytes) e)) (let k = refused_short n p h l in omega arith) w
 
 module _ (answer : TextAnswer) (bytes out : List ℕ) (fits : TextFits (told answer) bytes out) where
-  pub given_there : (long : ℕ) (k : Known) → answer ≡ Given long k → long ≤ length bytes
-  given_there long k e = (subst (λ (a : TextAnswer). TextFits (told a) bytes out) e fits).there
+  pub given_there : (g : Given) → answer ≡ Ok g → g.long ≤ length bytes
+  given_there g e = (subst (λ (a : TextAnswer). TextFits (told a) bytes out) e fits).there
 
   part_short : (long : ℕ) {part : List ℕ} → part ≡ take long bytes → length part ≤ 255
   part_short long q = let f = fits.few in let l = ap length q ∙ length-take long bytes in omega arith
@@ -41,10 +41,10 @@ module _ (answer : TextAnswer) (bytes out : List ℕ) (fits : TextFits (told ans
   pub given_room : (long : ℕ) {part : List ℕ} → part ≡ take long bytes → 3 * length part ≤ length out
   given_room long q = let l = part_short long q in let r = fits.room in omega arith
 
-  pub given_says : (long : ℕ) (k : Known) {part after : List ℕ} {end : ℕ} → answer ≡ Given long k → part ≡ take long bytes → Wrote (bytes_text part) out 0 after end
+  pub given_says : (g : Given) {part after : List ℕ} {end : ℕ} → answer ≡ Ok g → part ≡ take g.long bytes → Wrote (bytes_text part) out 0 after end
       → Put (told answer) bytes out after end
-  given_says long k {part} e q w =
-      says answer bytes (ap bytes_text q ∙ sym (ap (λ (a : TextAnswer). answer_text (told a) bytes) e)) (let l = bytes_short part in let h = part_short long q in omega arith) w
+  given_says g {part} e q w =
+      says answer bytes (ap bytes_text q ∙ sym (ap (λ (a : TextAnswer). answer_text (told a) bytes) e)) (let l = bytes_short part in let h = part_short g.long q in omega arith) w
 
   pub refused_room : (number place : ℕ) → number < 2 ^ 64 → place < 2 ^ 64 → length (refused_text number place) ≤ length out
   refused_room number place h l = let r = refused_short number place h l in let t = fits.room in omega arith

@@ -1,7 +1,6 @@
 -- The line for every input, and what is left in the slice that it is written to. Assumes nothing: these are definitions.
 use Rattle.std.specs.Prelude.{ℕ, ◌<◌, ◌≤◌, ◌≡◌, List, [], ◌∷◌, ◌++◌, length, take, replicate}
-use Rattle.texts.specs.declared.TextAnswer.{TextAnswer}
-use Rattle.texts.specs.Answer.{Result, given, refused, told, ReadRight}
+use Rattle.texts.specs.Answer.{TextAnswer, Result, given, refused, told, ReadRight}
 use Rattle.writing.specs.Wrote.{Wrote}
 use Rattle.writing.specs.Refused.{refused_text}
 use Rattle.text_lines.specs.Hexadecimal.{bytes_text}

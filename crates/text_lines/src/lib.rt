@@ -8,7 +8,7 @@ ghost use Rattle.text_lines.specs.Hexadecimal.{hex_digit_of, hex_of, spaced, byt
 ghost use Rattle.text_lines.specs.Input.{text_in_of};
 ghost use Rattle.text_lines.specs.Line.{TextFits, Put, LineRight};
 
-use texts::TextAnswer;
+use texts::{Given, TextRefusal};
 use writing::{front, past, put_byte, put_refused};
 
 // A rule has at most 255 bytes, so that no line is longer.
@@ -69,10 +69,8 @@ fn put_spaced(out: &mut [u8], at: usize, bytes: &[u8]) -> usize
     ensures { Wrote (spaced bytes.now) out.old at out.new result }
 {
     let mut end = at;
-    let mut i = 0;
-    while i < bytes.len() {
-        end = put_next(out, end, bytes[i]);
-        i += 1;
+    for &byte in bytes {
+        end = put_next(out, end, byte);
     }
     end
 }
@@ -90,13 +88,13 @@ fn put_bytes(out: &mut [u8], bytes: &[u8]) -> usize
 }
 
 // What reading came to: the bytes that were written, or the refusal.
-fn put_answer(out: &mut [u8], answer: TextAnswer, bytes: &[u8]) -> usize
+fn put_answer(out: &mut [u8], answer: Result<Given, TextRefusal>, bytes: &[u8]) -> usize
     requires { TextFits (told answer) bytes.now out.old }
     ensures { Put (told answer) bytes.now out.old out.new result }
 {
     match answer {
-        TextAnswer::Given { long, rule: _ } => put_bytes(out, front(bytes, long)),
-        TextAnswer::Refused(x) => put_refused(out, x.number(), x.place()),
+        Ok(given) => put_bytes(out, front(bytes, given.long)),
+        Err(x) => put_refused(out, x.number(), x.place()),
     }
 }
 

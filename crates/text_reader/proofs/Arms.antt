@@ -7,6 +7,8 @@ use lib.Seq.{drop-cons}
 use borrow.Author.Tests.{ne_eqb}
 use Rattle.definitions.specs.Definition1.{prop, yea, nay, neg, join, Rule, empty}
 use Rattle.definitions.specs.Encoding.{spell_f}
+use Rattle.std.specs.Prelude.{Result}
+use Rattle.grammar.specs.declared.words.Fault.{Fault}
 use Rattle.text_reader.specs.declared.reader.Taken.{Taken}
 use Rattle.grammar.specs.Text.{formula_text}
 use Rattle.grammar.specs.inner.Reading.{Need, rule, formula, digit, junction, tail, occurrence, sign, Rest, row, closed, standing, rows, scan}
@@ -21,7 +23,7 @@ use Rattle.grammar.proofs.Standing.{ended, absent}
 use Rattle.grammar.proofs.Passing.{alone}
 use Rattle.text_reader.proofs.Taking.{by_row, put_before}
 
-module _ (s : List ℕ) (at : ℕ) (b : List ℕ) (to : ℕ) (a : List ℕ) (t : Taken) where
+module _ (s : List ℕ) (at : ℕ) (b : List ℕ) (to : ℕ) (a : List ℕ) (t : Result Taken Fault) where
   pub arm_prop : At s at 112 → DigitTaken s (at + 1) b to a t → FormulaTaken s at b to a t
   unfolding rows
   arm_prop h x = by_row s at b to a formula 112 (row 112 (digit ∷ []) (λ v. prop v.0)) (λ on ns k p other. refl) (rights formula 112).0 refl h (λ v. spell_f (prop v.0)) spell_f (λ v. refl) t x
@@ -67,12 +69,12 @@ module _ (s : List ℕ) (at : ℕ) where
       ∙ later _ _ _ (ne_eqb _ _ (λ e. y (record { inside = h; char = e })))
       ∙ ap (λ (l : List ℕ). scan l (formula ∷ occurrence ∷ ms) (λ f c. k (standing f c)) at) (sym (drop-cons s at 0 h))
 
-  pub arm_letter : at < length s → (At s at 91 → ⊥) → (At s at 123 → ⊥) → (b : List ℕ) (to : ℕ) (a : List ℕ) (t : Taken) → LetterTaken s at b to a t → RuleTaken s at b to a t
-  arm_letter h x y b to a t (took e past z i) = took e past z (record {
+  pub arm_letter : at < length s → (At s at 91 → ⊥) → (At s at 123 → ⊥) → (b : List ℕ) (to : ℕ) (a : List ℕ) (t : Result Taken Fault) → LetterTaken s at b to a t → RuleTaken s at b to a t
+  arm_letter h x y b to a t (took u z i) = took u z (record {
     vs = (standing i.vs.0 i.vs.1.0, tt);
     there = record {
       small = (standing_small i.vs.0 i.vs.1.0 i.there.small.0 i.there.small.1.0, tt);
-      part = alone s rule (standing i.vs.0 i.vs.1.0) (subst (λ (t : List ℕ). Part s at t e) (ap (λ (t : List ℕ). formula_text i.vs.0 ++ t) (append-nil (occurrence_text i.vs.1.0)) ∙ sym (standing_text i.vs.0 i.vs.1.0)) i.there.part);
+      part = alone s rule (standing i.vs.0 i.vs.1.0) (subst (λ (t : List ℕ). Part s at t u.end) (ap (λ (t : List ℕ). formula_text i.vs.0 ++ t) (append-nil (occurrence_text i.vs.1.0)) ∙ sym (standing_text i.vs.0 i.vs.1.0)) i.there.part);
       over = λ ms k. as_formula h x y ms k ∙ i.there.over ms (λ f c. k (standing f c));
     };
     wrote = i.wrote;

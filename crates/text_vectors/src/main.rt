@@ -3,7 +3,7 @@
 
 use std::io;
 use text_lines::LINE_ROOM;
-use texts::{LONGEST_TEXT, TextAnswer};
+use texts::LONGEST_TEXT;
 
 // More than the texts here take.
 const TEXT_ROOM: usize = 100;
@@ -27,20 +27,8 @@ const EXAMPLE: [u8; 12] = *b"\x12\x10\x01\x00\x12\x17\x10\x01\x01\x10\x01\x02";
 const EVERY_KIND: [u8; 31] =
     *b"\x12\x13\x14\x15\x16\x17\x18\x11\x10\x01\x00\x10\x01\x01\x10\x01\x02\x10\x01\x03\x10\x04\x05\x01\x04\x06\x01\x05\x05\x02\x03";
 
-fn print(rt: &impl Print, bytes: &[u8]) -> io::Result<()> {
-    rt.write_all(bytes)
-}
-
-fn number(rt: &impl Print, n: u64) -> io::Result<()> {
-    print!(rt; "{n}")
-}
-
-fn refused(rt: &impl Print, number_of: u64, place: usize) -> io::Result<()> {
-    print(rt, b"refused ")?;
-    number(rt, number_of)?;
-    print(rt, b" at ")?;
-    number(rt, place as u64)?;
-    print(rt, b"\n")
+fn refused(rt: &impl Print, number: u64, place: usize) -> io::Result<()> {
+    println!(rt; "refused {number} at {place}")
 }
 
 // The line of a text.
@@ -48,38 +36,30 @@ fn show(rt: &impl Print, text: &[u8]) -> io::Result<()> {
     let mut out = [0u8; LINE_ROOM];
     let long = text_lines::line(text, &mut out);
     if long <= out.len() {
-        print(rt, &out[..long])?;
+        rt.write_all(&out[..long])?;
     }
     Ok(())
 }
 
 // How much is written to this output, or the refusal.
 fn read_into(rt: &impl Print, text: &[u8], out: &mut [u8]) -> io::Result<()> {
-    let answer = texts::read_text(text, out);
-    match answer {
-        TextAnswer::Given { long, rule } => {
-            print(rt, b"bytes ")?;
-            number(rt, long as u64)?;
-            print(rt, b" weight ")?;
-            number(rt, rule.weight as u64)?;
-            print(rt, b"\n")?;
-        }
-        TextAnswer::Refused(x) => refused(rt, x.number(), x.place())?,
+    match texts::read_text(text, out) {
+        Ok(given) => println!(rt; "bytes {} weight {}", given.long, given.rule.weight),
+        Err(x) => refused(rt, x.number(), x.place()),
     }
-    Ok(())
 }
 
 // The text of a rule's bytes, or the refusal.
 fn write_back(rt: &impl Print, rule: &[u8], out: &mut [u8]) -> io::Result<()> {
     let answer = texts::write_text(rule, out);
     match answer {
-        TextAnswer::Given { long, rule: _ } => {
-            if long <= out.len() {
-                print(rt, &out[..long])?;
+        Ok(given) => {
+            if given.long <= out.len() {
+                rt.write_all(&out[..given.long])?;
             }
-            print(rt, b"\n")?;
+            println!(rt; "")?;
         }
-        TextAnswer::Refused(x) => refused(rt, x.number(), x.place())?,
+        Err(x) => refused(rt, x.number(), x.place())?,
     }
     Ok(())
 }
@@ -135,12 +115,12 @@ fn counted(rt: &impl Print, text: &[u8], bytes: &mut [u8]) -> io::Result<()> {
     show(rt, text)?;
     let answer = texts::read_text(text, bytes);
     match answer {
-        TextAnswer::Given { long, rule: _ } => {
-            if long <= bytes.len() {
-                write_back(rt, &bytes[..long], &mut [0u8; TEXT_ROOM])?;
+        Ok(given) => {
+            if given.long <= bytes.len() {
+                write_back(rt, &bytes[..given.long], &mut [0u8; TEXT_ROOM])?;
             }
         }
-        TextAnswer::Refused(x) => refused(rt, x.number(), x.place())?,
+        Err(x) => refused(rt, x.number(), x.place())?,
     }
     Ok(())
 }

@@ -2,11 +2,10 @@
 #![tactic(auto)]
 
 use automata::{STATES, TABLE_ENTRIES};
-use passes::inner::Searched;
-use search::SearchAnswer;
+use search::Answered;
 use std::io;
-use tables::TableAnswer;
-use trims::TrimAnswer;
+use tables::Tabled;
+use trims::{Refusal, TrimmedTable};
 
 // An entry more than a table takes; it holds OLD before and after.
 const LENT: usize = TABLE_ENTRIES + 1;
@@ -26,101 +25,54 @@ const HALF: [u8; 10] = *b"\x14\x10\x01\x00\x12\x10\x01\x00\x10\x03";
 const MODEL: [u8; 33] =
     *b"\x20\x01\x01\x02\x00\x00\x00\x00\x00\x00\x00\x20\x02\x00\x06\x00\x00\x00\x00\x00\x00\x00\x20\x04\x00\x04\x00\x00\x00\x00\x00\x00\x00";
 
-fn print(rt: &impl Print, bytes: &[u8]) -> io::Result<()> {
-    rt.write_all(bytes)
+fn refused(rt: &impl Print, number: u64, place: usize) -> io::Result<()> {
+    println!(rt; "refused {number} at {place}")
 }
 
-fn number(rt: &impl Print, n: u64) -> io::Result<()> {
-    print!(rt; "{n}")
+fn sizes(rt: &impl Print, word: &str, weight: usize, finals: u64) -> io::Result<()> {
+    println!(rt; "{word} {weight} finals {finals:016x}")
 }
 
-fn refused(rt: &impl Print, number_of: u64, place: usize) -> io::Result<()> {
-    print(rt, b"refused ")?;
-    number(rt, number_of)?;
-    print(rt, b" at ")?;
-    number(rt, place as u64)?;
-    print(rt, b"\n")
-}
-
-fn sizes(rt: &impl Print, word: &[u8], weight: usize, finals: u64) -> io::Result<()> {
-    print(rt, word)?;
-    number(rt, weight as u64)?;
-    print(rt, b" finals ")?;
-    print!(rt; "{finals:016x}")?;
-    print(rt, b"\n")
-}
-
-// Where the label from p to q stands.
-fn place(p: usize, q: usize) -> usize {
-    if p < STATES {
-        if q < STATES {
-            return STATES * p + q;
-        }
-    }
-    TABLE_ENTRIES
-}
-
-// The label from p to q, if there is one.
-fn show_label(rt: &impl Print, table: &[u64], p: usize, q: usize) -> io::Result<()> {
-    let at = place(p, q);
-    if at < table.len() {
-        let label = table[at];
-        if label != 0 {
-            print(rt, b"  ")?;
-            number(rt, p as u64)?;
-            print(rt, b" to ")?;
-            number(rt, q as u64)?;
-            print(rt, b" ")?;
-            print!(rt; "{label:016x}")?;
-            print(rt, b"\n")?;
-        }
-    }
-    Ok(())
-}
-
-fn show_row(rt: &impl Print, table: &[u64], p: usize) -> io::Result<()> {
-    for q in 0..STATES {
-        show_label(rt, table, p, q)?;
-    }
-    Ok(())
-}
-
+// The labels that are not 0.
 fn show_labels(rt: &impl Print, table: &[u64]) -> io::Result<()> {
-    for p in 0..STATES {
-        show_row(rt, table, p)?;
+    for (at, label) in table.iter().take(TABLE_ENTRIES).enumerate() {
+        if *label != 0 {
+            println!(rt; "  {} to {} {label:016x}", at / STATES, at % STATES)?;
+        }
     }
     Ok(())
 }
 
-// Whether the entry past the table is as it was.
-fn past_kept(table: &[u64]) -> bool {
-    if table.len() <= TABLE_ENTRIES {
-        return true;
+// Says so if the entry past the table is not as it was.
+fn show_past(rt: &impl Print, table: &[u64]) -> io::Result<()> {
+    match table.get(TABLE_ENTRIES) {
+        Some(v) if *v != OLD => println!(rt; "past the table something changed"),
+        _ => Ok(()),
     }
-    table[TABLE_ENTRIES] == OLD
 }
 
 // What trimming comes to, with the labels that the slice then has.
-fn show_trimmed(rt: &impl Print, answer: TrimAnswer, table: &[u64]) -> io::Result<()> {
+fn show_trimmed(
+    rt: &impl Print,
+    answer: Result<TrimmedTable, Refusal>,
+    table: &[u64],
+) -> io::Result<()> {
     match answer {
-        TrimAnswer::Refused(x) => refused(rt, x.number(), x.place())?,
-        TrimAnswer::Trimmed(trimmed) => {
-            sizes(rt, b"trimmed ", trimmed.weight, trimmed.finals)?;
+        Err(x) => refused(rt, x.number(), x.place())?,
+        Ok(trimmed) => {
+            sizes(rt, "trimmed", trimmed.weight, trimmed.finals)?;
             show_labels(rt, table)?;
         }
     }
-    if !past_kept(table) {
-        print(rt, b"past the table something changed\n")?;
-    }
-    Ok(())
+    show_past(rt, table)
 }
 
 // Trims the slice, and what came of it once more.
 fn trim(rt: &impl Print, table: &mut [u64], weight: usize, finals: u64) -> io::Result<()> {
     let answer = trims::trim(table, weight, finals);
     show_trimmed(rt, answer, table)?;
-    if let TrimAnswer::Trimmed(first) = answer {
-        print(rt, b"again ")?;
+    if let Ok(first) = answer {
+        print!(rt; "again ")?;
         let again = trims::trim(table, first.weight, first.finals);
         show_trimmed(rt, again, table)?;
     }
@@ -132,16 +84,26 @@ fn build_and_trim(rt: &impl Print, rule: &[u8]) -> io::Result<()> {
     let mut table = [OLD; LENT];
     let answer = tables::build(rule, &mut table);
     match answer {
-        TableAnswer::Refused(x) => refused(rt, x.number(), x.place())?,
-        TableAnswer::Tabled {
-            rule: known,
-            finals,
-        } => {
-            sizes(rt, b"built ", known.weight, finals)?;
+        Err(x) => refused(rt, x.number(), x.place())?,
+        Ok(
+            Tabled {
+                rule: known,
+                finals,
+            },
+        ) => {
+            sizes(rt, "built", known.weight, finals)?;
             trim(rt, &mut table, known.weight, finals)?;
         }
     }
     Ok(())
+}
+
+// Where the label from p to q stands.
+fn place(p: usize, q: usize) -> usize {
+    if p < STATES && q < STATES {
+        return STATES * p + q;
+    }
+    TABLE_ENTRIES
 }
 
 fn put(table: &mut [u64], at: usize, v: u64) {
@@ -170,56 +132,30 @@ fn refusals(rt: &impl Print) -> io::Result<()> {
     lent(rt, 63, 63, 63, 1)
 }
 
-fn byte(rt: &impl Print, b: u8) -> io::Result<()> {
-    number(rt, b as u64)
-}
-
-fn show_state(rt: &impl Print, run: &[u8], i: usize) -> io::Result<()> {
-    if i < run.len() {
-        print(rt, b" ")?;
-        byte(rt, run[i])?;
-    }
-    Ok(())
-}
-
-fn show_run(rt: &impl Print, run: &[u8], long: usize) -> io::Result<()> {
-    for i in 0..long {
-        show_state(rt, run, i)?;
-    }
-    Ok(())
-}
-
 fn found(rt: &impl Print, run: &[u8], long: usize, pairs: usize) -> io::Result<()> {
-    print(rt, b"found ")?;
-    number(rt, long as u64)?;
-    print(rt, b" pairs ")?;
-    number(rt, pairs as u64)?;
-    print(rt, b":")?;
-    show_run(rt, run, long)?;
-    print(rt, b"\n")
+    print!(rt; "found {long} pairs {pairs}:")?;
+    for state in run.iter().take(long) {
+        print!(rt; " {state}")?;
+    }
+    println!(rt; "")
 }
 
 // What a search came to, and the table that it left, if it was made.
-fn show_search(rt: &impl Print, answer: SearchAnswer, table: &[u64], run: &[u8]) -> io::Result<()> {
+fn show_search(
+    rt: &impl Print,
+    answer: Result<Answered, search::Refusal>,
+    table: &[u64],
+    run: &[u8],
+) -> io::Result<()> {
     match answer {
-        SearchAnswer::Refused(x) => {
-            refused(rt, x.number(), x.place())?;
-            return Ok(());
-        }
-        SearchAnswer::Answered { searched, rule: _ } => match searched {
-            Searched::Found { long, pairs } => found(rt, run, long, pairs)?,
-            Searched::Nothing { pairs } => {
-                print(rt, b"none pairs ")?;
-                number(rt, pairs as u64)?;
-                print(rt, b"\n")?;
-            }
+        Err(x) => return refused(rt, x.number(), x.place()),
+        Ok(Answered { searched, rule: _ }) => match searched.found {
+            Some(long) => found(rt, run, long, searched.pairs)?,
+            None => println!(rt; "none pairs {}", searched.pairs)?,
         },
     }
     show_labels(rt, table)?;
-    if !past_kept(table) {
-        print(rt, b"past the table something changed\n")?;
-    }
-    Ok(())
+    show_past(rt, table)
 }
 
 // The two searches.
@@ -228,7 +164,7 @@ fn search_both(rt: &impl Print, rule: &[u8], model: &[u8], run: &mut [u8]) -> io
     let mut marks = [1u16; LENT];
     let mut useful = [1u16; LENT];
     let whole = search::search(rule, model, &mut table, &mut marks, &mut useful, run);
-    print(rt, b"search ")?;
+    print!(rt; "search ")?;
     show_search(rt, whole, &table, run)?;
     let trimmed = trimmed_search::search_trimmed(
         rule,
@@ -238,7 +174,7 @@ fn search_both(rt: &impl Print, rule: &[u8], model: &[u8], run: &mut [u8]) -> io
         &mut useful,
         run,
     );
-    print(rt, b"trimmed ")?;
+    print!(rt; "trimmed ")?;
     show_search(rt, trimmed, &table, run)
 }
 

@@ -1,30 +1,31 @@
 -- No second answer and no second content of the lent slices fit the promise of `search_trimmed`. Assumes nothing.
 use Prim.Native.Nat.{ℕ}
-use mathlib.Core.Path.{◌≡◌, sym, subst}
+use mathlib.Core.Path.{◌≡◌, sym, ap, subst}
 use mathlib.Core.List.{List}
 use Rattle.definitions.specs.Definition1.{Rule}
 use Rattle.rules.specs.Weight.{weight_of}
 use Rattle.rules.specs.Answer.{known_of}
-use Rattle.tables.specs.declared.TableAnswer.TheVariants.{Tabled}
+use Rattle.std.specs.Prelude.{Ok}
+use Rattle.tables.specs.Answer.{TableAnswer}
 use Rattle.automata.specs.Table.{table_of}
 use Rattle.tables.proofs.promise.Once as tables-once
 use Rattle.trims.specs.Answer.{TrimRight, trimmed}
 use Rattle.trims.proofs.Once as trims-once
 use Rattle.models.specs.Model.{Model}
-use Rattle.search.specs.declared.SearchAnswer.{SearchAnswer}
+use Rattle.search.specs.Answer.{SearchAnswer}
 use Rattle.levels.specs.Right.{Answer}
 use Rattle.search.specs.Answer.{Slices, LongEnough, told, SearchDone}
-use Rattle.search.proofs.Once.{done_once, one_call_answer}
+use Rattle.search.proofs.Once.{done_once, finals_of, one_call_answer}
 use Rattle.trimmed_search.specs.Answer.{TrimmedFor, TrimmedSearches, TrimmedSearchRight}
 
 -- building and trimming leave one table
 module _ {s : List ℕ} {f : Rule} {t u v : List ℕ} {n m g h : ℕ} (x : TrimmedFor s f t u n g) (y : TrimmedFor s f t v m h) where
-  built_same : (Tabled (known_of f) x.finals ≡ Tabled (known_of f) y.finals) × (x.built ≡ y.built)
+  built_same : (◌≡◌ {A = TableAnswer} (Ok (record { rule = known_of f; finals = x.finals })) (Ok (record { rule = known_of f; finals = y.finals }))) × (x.built ≡ y.built)
   built_same =
-      tables-once.one_answer s t x.built y.built (Tabled (known_of f) x.finals) (Tabled (known_of f) y.finals) x.words y.words x.build y.build
+      tables-once.one_answer s t x.built y.built (Ok (record { rule = known_of f; finals = x.finals })) (Ok (record { rule = known_of f; finals = y.finals })) x.words y.words x.build y.build
 
   finals_same : x.finals ≡ y.finals
-  finals_same = let e = built_same.0 in cc
+  finals_same = ap finals_of built_same.0
 
   trim_same : TrimRight x.built v (weight_of f) x.finals (trimmed m h)
   trim_same =

@@ -16,13 +16,12 @@ use Rattle.trims.proofs.Built.{built_stands, trimmed_serves}
 use Rattle.models.specs.Stored.{model_of}
 use Rattle.lasting.specs.Endless.{LastingRun}
 use Rattle.passes.specs.declared.inner.Searched.{Searched}
-use Rattle.search.specs.declared.input.InputRead.{InputRead}
-use Rattle.search.specs.declared.SearchAnswer.TheVariants.{Answered}
+use Rattle.search.specs.declared.input.Input.{Input}
 use Rattle.levels.specs.Lent.{LentTable}
 use Rattle.passes.specs.Told.{SearchedTable}
 use Rattle.search.specs.Answer.{Slices, slices, told}
-use Rattle.search.specs.Input.{Usable, InputRight}
-use Rattle.search.proofs.Whole.{is_built, lent_table, search_done, call_right}
+use Rattle.search.specs.Input.{Usable, InputUsable}
+use Rattle.search.proofs.Whole.{as_answered, is_built, lent_table, search_done, call_right}
 use Rattle.trimmed_search.specs.Answer.{TrimmedFor, TrimmedSearchRight}
 
 module _ {s g t t' : List ℕ} {l : Slices} {k : Known} {f : ℕ} (w : Usable s g l k) (words : Words t') (b : TableFor s t t' f) (long : table_entries ≤ length t) where
@@ -50,9 +49,9 @@ module _ {s g t t' : List ℕ} {l : Slices} {k : Known} {f : ℕ} (w : Usable s 
     trimmed_for : TrimmedFor s w.meant t u m h
     trimmed_for = record { built = t'; finals = f; words = words; build = b.right w.meant w.accepted; trim = the_trimmed long_still stands_whole trimmed_whole }
 
-pub trimmed_yes : {s g t t' u m m' n n' run run' : List ℕ} {r : InputRead} {k : Known} {f j h : ℕ} {x : Searched} → InputRight s g (slices t m n run) r → (w : Usable s g (slices t m n run) k)
+pub trimmed_yes : {s g t t' u m m' n n' run run' : List ℕ} {r : Input} {k : Known} {f j h : ℕ} {x : Searched} → InputUsable s g (slices t m n run) r → (w : Usable s g (slices t m n run) k)
     → Words t' → TableFor s t t' f → Trimmed t' u k.weight f j h → SearchedTable LastingRun (model_of r.model) (table_of u j h) x m m' n n' run run'
-    → TrimmedSearchRight s g (slices t m n run) (slices u m' n' run') (told (Answered x k) run')
+    → TrimmedSearchRight s g (slices t m n run) (slices u m' n' run') (told (as_answered x k) run')
 trimmed_yes {t = t} {u = u} {m = m} {m' = m'} {n = n} {n' = n'} {run = run} {run' = run'} {j = j} {h = h} {x = x} i w words b z y =
     call_right i x w y.answers.run_kept (record {
       weight = j;

@@ -4,8 +4,8 @@
 ghost use Rattle.search.specs.Answer.{slices, told};
 ghost use Rattle.trimmed_search.specs.Answer.{TrimmedSearchRight};
 
-use search::SearchAnswer;
-use search::input::{InputAnswer, read_input, search_stored};
+use search::input::{read_input, search_stored};
+use search::{Answered, Refusal};
 use tables::build_accepted;
 use trims::trim_standing;
 
@@ -17,30 +17,25 @@ pub fn search_trimmed(
     marks: &mut [u16],
     useful: &mut [u16],
     run: &mut [u8],
-) -> SearchAnswer
+) -> Result<Answered, Refusal>
     ensures { TrimmedSearchRight rule.now model.now (slices table.old marks.old useful.old run.old) (slices table.new marks.new useful.new run.new) (told result run.new) }
 {
-    let input = read_input(rule, model, table, marks, useful, run);
-    let answer = input.answer;
-    match answer {
-        InputAnswer::Refused(x) => SearchAnswer::Refused(x),
-        InputAnswer::Accepted(known) => {
-            let finals = build_accepted(rule, table);
-            let trimmed = trim_standing(table, known.weight, finals);
-            let stored = input.model;
-            let searched = search_stored(
-                stored,
-                table,
-                trimmed.weight,
-                trimmed.finals,
-                marks,
-                useful,
-                run,
-            );
-            SearchAnswer::Answered {
-                searched,
-                rule: known,
-            }
-        }
-    }
+    let input = read_input(rule, model, table, marks, useful, run)?;
+    let known = input.rule;
+    let finals = build_accepted(rule, table);
+    let trimmed = trim_standing(table, known.weight, finals);
+    let stored = input.model;
+    let searched = search_stored(
+        stored,
+        table,
+        trimmed.weight,
+        trimmed.finals,
+        marks,
+        useful,
+        run,
+    );
+    Ok(Answered {
+        searched,
+        rule: known,
+    })
 }

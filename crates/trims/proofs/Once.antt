@@ -7,6 +7,8 @@ use mathlib.Core.Bool.{cond}
 use mathlib.Core.List.{List}
 use lib.Dec.{T, eqb}
 use lib.ListN.{get_or}
+use Rattle.std.specs.Prelude as std
+use Rattle.std.specs.Prelude.{Ok, Err}
 use Rattle.bits.specs.Word.{bit, many}
 use Rattle.bits.proofs.Laws.{ext, lt_or_ge}
 use Rattle.bits.proofs.Truths.{same_truth}
@@ -14,8 +16,8 @@ use Rattle.rules.proofs.Once.{told_once}
 use Rattle.automata.specs.Table.{table_states, table_entries, cell}
 use Rattle.tables.proofs.promise.Beyonds.{beyond_once}
 use Rattle.trims.specs.declared.Refusal.TheVariants.{ShortTable, NoTable}
-use Rattle.trims.specs.declared.TrimAnswer.{TrimAnswer}
-use Rattle.trims.specs.declared.TrimAnswer.TheVariants as variants
+use Rattle.trims.specs.declared.Refusal.{Refusal}
+use Rattle.trims.specs.declared.TrimmedTable.{TrimmedTable}
 use Rattle.trims.specs.Kept.{KeptSet, new_number}
 use Rattle.trims.specs.Stands.{Stands, Faulty, no_state, too_many, final_outside, label_outside}
 use Rattle.trims.specs.Trimmed.{Trimmed}
@@ -91,17 +93,17 @@ one_result (the_trimmed l s x) (no_table m y d) = absurd (no_fault s y)
 one_result (the_trimmed l s x) (the_trimmed m r y) = (ap₂ trimmed (one_weight x y) (one_finals x y), one_slice x y)
 
 -- the answer that a result tells of: `told` loses nothing
-abbrev meant : Result → TrimAnswer
-meant (trimmed n f) = variants.Trimmed (record { weight = n; finals = f })
-meant (refused n p) = variants.Refused (cond (eqb n 21) ShortTable NoTable)
+abbrev meant : Result → std.Result TrimmedTable Refusal
+meant (trimmed n f) = Ok (record { weight = n; finals = f })
+meant (refused n p) = Err (cond (eqb n 21) ShortTable NoTable)
 
-meant_told : (a : TrimAnswer) → meant (told a) ≡ a
-meant_told (variants.Trimmed x) = refl
-meant_told (variants.Refused ShortTable) = refl
-meant_told (variants.Refused NoTable) = refl
+meant_told : (a : std.Result TrimmedTable Refusal) → meant (told a) ≡ a
+meant_told (Ok x) = refl
+meant_told (Err ShortTable) = refl
+meant_told (Err NoTable) = refl
 
 -- no second answer and no second slice
-pub one_answer : (t u v : List ℕ) (n f : ℕ) (a b : TrimAnswer) → TrimRight t u n f (told a) → TrimRight t v n f (told b) → (a ≡ b) × (u ≡ v)
+pub one_answer : (t u v : List ℕ) (n f : ℕ) (a b : std.Result TrimmedTable Refusal) → TrimRight t u n f (told a) → TrimRight t v n f (told b) → (a ≡ b) × (u ≡ v)
 one_answer t u v n f a b ra rb = let o = one_result ra rb in (told_once told meant meant_told a b o.0, o.1)
 
 -- trimming what was trimmed changes nothing and answers the same

@@ -1,12 +1,14 @@
 -- What the tests of a lent table tell. Assumes nothing.
 use Prim.Native.Nat.{ℕ, ◌-◌, ◌^◌, ◌<◌, ◌≤◌}
-use mathlib.Core.Path.{◌≡◌, refl, sym, ap, ◌∙◌}
+use mathlib.Core.Path.{◌≡◌, refl, sym, ap, subst, ◌∙◌}
 use mathlib.Core.Logic.{◌≢◌, ◌⊎◌, inl, inr, ⊎_elim}
 use mathlib.Core.Bool.{Bool, true, false, not, false≢true}
 use mathlib.Core.List.{List}
 use native.Mathlib.Omega.{arith}
+use native.Mathlib.Nat.{zero-add}
 use lib.Bits.{bit_and}
-use lib.Dec.{T, eqb, leb, ltb}
+use lib.Dec.{T, eqb, ltb, leb}
+use lib.ListN.{get_or}
 use borrow.Author.Tests.{le-ltb, ltb-false}
 use Rattle.bits.specs.Word.{bit, all}
 use Rattle.bits.specs.Says.{Says}
@@ -18,22 +20,27 @@ use Rattle.bits.proofs.Firsts.{all_lt}
 use Rattle.automata.specs.Table.{table_states, cell}
 use Rattle.trims.specs.Stands.{Stands, Faulty, final_outside, label_outside}
 use Rattle.trims.specs.inner.Outside.{StrayLabel, StrayRows, StrayFinal, Judged}
+use Rattle.std.specs.List.{IsAnyAnswer, range_with_len}
+use Rattle.std.proofs.lemmas.List.FromFn.{length-range_with_len, get_or-range_with_len}
+use Rattle.bits.specs.Sets.{Over}
 
--- ---- one label
+-- ---- rows and columns
 
-module _ (t : List ℕ) (n p q v : ℕ) (e : v ≡ cell t p q) where
-  pub stray_none : v ≡ 0 → Says false (StrayLabel t n p q)
-  stray_none z = say_no (λ x. x.label (sym e ∙ z))
+-- what `any` answers of the numbers below n, where its test says whether S holds
+pub any_says : {b : Bool} {n : ℕ} {S : ℕ → Type 0} → IsAnyAnswer (λ k t. Says t (S k)) (range_with_len 0 n) b → Says b (Over (λ k. k < n) S)
+any_says {b = true} {n} {S} (k, l, h) =
+    let i : k < n = omega (arith, length-range_with_len 0 n) in
+    let s : Says true (S (get_or (range_with_len 0 n) k 0)) = h 0 in
+    say_yes (record { at = k; inside = i; holds = (subst (λ (j : ℕ). Says true (S j)) (get_or-range_with_len 0 n k 0 i ∙ zero-add k) s).yes_holds refl })
+any_says {b = false} {n} {S} a = say_no (λ o. (subst (λ (j : ℕ). Says false (S j)) (get_or-range_with_len 0 n o.at 0 o.inside ∙ zero-add o.at) (no o.at o.inside)).no_fails refl o.holds)
+  where
+    no : (k : ℕ) → k < n → Says false (S (get_or (range_with_len 0 n) k 0))
+    no k l = a k 0 (omega arith) (omega (arith, length-range_with_len 0 n))
 
-  module _ (z : v ≢ 0) where
-    label : cell t p q ≢ 0
-    label = λ d. z (e ∙ d)
-
-    pub stray_column : p < n → Says (leb n q) (StrayLabel t n p q)
-    stray_column l = says_map (λ h. record { label = label; outside = inr h }) (λ x. ⊎_elim (λ h. absurd (omega arith)) (λ h. h) x.outside) (says_le n q)
-
-    pub stray_below : n ≤ p → Says true (StrayLabel t n p q)
-    stray_below l = say_yes (record { label = label; outside = inl l })
+-- a label that is one, and leaves a state inside
+pub stray_column : {t : List ℕ} {n p q v : ℕ} → v ≡ cell t p q → v ≢ 0 → p < n → Says (leb n q) (StrayLabel t n p q)
+stray_column {n = n} {q = q} e z l =
+    says_map (λ h. record { label = λ d. z (e ∙ d); outside = inr h }) (λ x. ⊎_elim (λ h. absurd (omega arith)) (λ h. h) x.outside) (says_le n q)
 
 -- ---- the finals
 

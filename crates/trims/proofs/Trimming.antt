@@ -36,8 +36,8 @@ put_beyond {t} {u} {n} small e x = record { size = e; rest = rest }
         let z : 64 * (i / 64) + i % 64 ≡ i = omega arith in
         subst (λ (m : ℕ). get_or u m 0 ≡ get_or t m 0) z (x.old (i / 64) (i % 64) (omega arith) (λ k. omega (arith, k.bottom)))
 
-module _ {t u from : List ℕ} {n f k m g : ℕ} (s : Stands t n f) (c : KeptSet t n f k) (l : Lists from k table_states m) (x : Put t u 0 n 0 n (moved_label_of t from m))
-    (e : length u ≡ length t) (d : g ≡ moved_finals_of from m f) (h : g < 2 ^ 64) where
+module _ {t u from : List ℕ} {n f k m g : ℕ} (s : Stands t n f) (c : KeptSet t n f k) (l : Lists from k m) (long : length from ≡ m) (x : Put t u 0 n 0 n (moved_label_of t from))
+    (e : length u ≡ length t) (d : g ≡ moved_finals_of from f) (h : g < 2 ^ 64) where
   -- what stands at the number of a member is the member
   inside : (q : ℕ) → T (bit k q) → q < n
   inside q b = kept_inside s (c.states.holds q b)
@@ -55,12 +55,12 @@ module _ {t u from : List ℕ} {n f k m g : ℕ} (s : Stands t n f) (c : KeptSet
   new_label p q bp bq =
       let a = listed p bp in let b = listed q bq in
       x.new (new_number k p) (new_number k q) (record { top = omega arith; bottom = fewer (new_number k p) a.0; left = omega arith; right = fewer (new_number k q) b.0 })
-      ∙ moved_here t from m (new_number k p) (new_number k q) a.0 b.0 ∙ ap₂ (cell t) a.1 b.1
+      ∙ moved_here t from (new_number k p) (new_number k q) (omega (arith, a.0)) (omega (arith, b.0)) ∙ ap₂ (cell t) a.1 b.1
 
   -- outside the new states the moves write no label, and outside the old ones there was none
-  no_move : (p q : ℕ) → (m ≤ p) ⊎ (m ≤ q) → moved_label_of t from m p q ≡ 0
-  no_move p q (inl o) = sym (moved_row_none t from m p q o)
-  no_move p q (inr o) = sym (moved_column_none t from m p q o)
+  no_move : (p q : ℕ) → (m ≤ p) ⊎ (m ≤ q) → moved_label_of t from p q ≡ 0
+  no_move p q (inl o) = sym (moved_row_none t from p q (omega arith))
+  no_move p q (inr o) = sym (moved_column_none t from p q (omega arith))
 
   none_there : (p q : ℕ) → p < table_states → q < table_states → (In 0 n 0 n p q → ⊥) → cell t p q ≡ 0
   none_there p q lp lq o = go (ℕ_discrete (cell t p q) 0)
@@ -80,11 +80,11 @@ module _ {t u from : List ℕ} {n f k m g : ℕ} (s : Stands t n f) (c : KeptSet
   unfolding moved_finals_of moved_final
   new_final q b =
       let a = listed q b in
-      ap (λ (z : ℕ). bit z (new_number k q)) d ∙ bit_word m (λ i. bit f (get_or from i 0)) (new_number k q) a.0 ∙ ap (bit f) a.1
+      ap (λ (z : ℕ). bit z (new_number k q)) d ∙ bit_word (length from) (λ i. bit f (get_or from i 0)) (new_number k q) (omega (arith, a.0)) ∙ ap (bit f) a.1
 
   no_final : (q : ℕ) → m ≤ q → bit g q ≡ false
   unfolding moved_finals_of
-  no_final q o = ap (λ (z : ℕ). bit z q) d ∙ bit_above m (word m (moved_final from f)) q (word_lt m (moved_final from f)) o
+  no_final q o = ap (λ (z : ℕ). bit z q) d ∙ bit_above (length from) (word (length from) (moved_final from f)) q (word_lt (length from) (moved_final from f)) (omega arith)
 
   pub moved_trimmed : Trimmed t u n f m g
   moved_trimmed = record {

@@ -1,9 +1,10 @@
 -- What trimming comes to, for every slice, weight and set of finals. Assumes nothing: these are definitions.
-use Rattle.std.specs.Prelude.{ℕ, ◌<◌, ◌≤◌, ◌≡◌, List, length}
+use Rattle.std.specs.Prelude as std
+use Rattle.std.specs.Prelude.{ℕ, ◌<◌, ◌≤◌, ◌≡◌, List, length, Ok, Err}
 use Rattle.definitions.specs.Numbers.{short_slice_number, no_table_number}
 use Rattle.automata.specs.Table.{table_entries}
-use Rattle.trims.specs.declared.TrimAnswer.{TrimAnswer}
-use Rattle.trims.specs.declared.TrimAnswer.TheVariants as variants
+use Rattle.trims.specs.declared.Refusal.{Refusal}
+use Rattle.trims.specs.declared.TrimmedTable.{TrimmedTable}
 use Rattle.trims.specs.Stands.{Stands, Faulty}
 use Rattle.trims.specs.Trimmed.{Trimmed}
 use Rattle.trims.specs.Refusals.{number, place}
@@ -14,9 +15,9 @@ pub data Result : Type 0 where
   refused : ℕ → ℕ → Result
 
 -- the paper's number and values for each case of the answer
-abbrev pub told : TrimAnswer → Result
-told (variants.Trimmed x) = trimmed x.weight x.finals
-told (variants.Refused x) = refused (number x) (place x)
+abbrev pub told : std.Result TrimmedTable Refusal → Result
+told (Ok x) = trimmed x.weight x.finals
+told (Err x) = refused (number x) (place x)
 
 -- the right result for the slice t, the weight n and the finals f, where the slice is t' after the call: 21, then 24, and the slice as it was; else trimmed
 pub data TrimRight (t t' : List ℕ) (n f : ℕ) : Result → Type 0 where

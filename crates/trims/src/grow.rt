@@ -8,16 +8,15 @@ ghost use Rattle.trims.specs.Kept.{KeptSet};
 ghost use Rattle.trims.specs.inner.Grown.{Beside, Grown};
 
 use automata::cells::get;
+use bits::those::those;
 
 // Whether a label leads from p to q; backwards, from q to p.
 fn is_beside(table: &[u64], back: bool, p: usize, q: usize) -> bool
     requires { (table_entries ≤ length table.now) × (p < table_states) × (q < table_states) }
     ensures { Says result (Beside table.now back p q) }
 {
-    if back {
-        return get(table, q, p) != 0;
-    }
-    get(table, p, q) != 0
+    let (from, to) = if back { (q, p) } else { (p, q) };
+    get(table, from, to) != 0
 }
 
 // The states beside p, of n.
@@ -25,13 +24,7 @@ fn side_of(table: &[u64], n: usize, back: bool, p: usize) -> u64
     requires { (table_entries ≤ length table.now) × (n ≤ table_states) × (p < table_states) }
     ensures { Members result (λ q. (q < n) × Beside table.now back p q) }
 {
-    let mut side: u64 = 0;
-    let mut q: usize = 0;
-    while q < n {
-        side = bits::with_if(side, q, is_beside(table, back, p, q));
-        q += 1;
-    }
-    side
+    those(n, |q| is_beside(table, back, p, q))
 }
 
 // The states that labels lead to from the set, its own among them. Each turn takes one state off the rest, for good: at most 64 turns.

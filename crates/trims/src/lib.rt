@@ -17,7 +17,7 @@ mod list; // the members of a set, in rising order
 mod moves; // labels and finals at their new numbers
 
 // Why a table is not trimmed.
-#[derive(Clone, Copy)]
+#[derive(Clone, Copy, Debug, PartialEq, Eq)]
 pub enum Refusal {
     // the slice is too short for a table
     ShortTable,
@@ -48,19 +48,10 @@ impl Refusal {
 }
 
 // What a trimmed table is besides its labels: its weight, and the set of its final states.
-#[derive(Clone, Copy)]
+#[derive(Clone, Copy, Debug, PartialEq, Eq)]
 pub struct TrimmedTable {
     pub weight: usize,
     pub finals: u64,
-}
-
-// What trimming comes to.
-#[derive(Clone, Copy)]
-pub enum TrimAnswer {
-    // The slice begins with the trimmed table.
-    Trimmed(TrimmedTable),
-    // The slice is as it was.
-    Refused(Refusal),
 }
 
 // Trims a table that stands inside its weight.
@@ -71,8 +62,9 @@ pub fn trim_standing(table: &mut [u64], weight: usize, finals: u64) -> TrimmedTa
     let kept = grow::kept(table, weight, finals);
     let mut from = [0usize; STATES];
     let count = list::list(&mut from, kept);
-    moves::move_labels(table, &from, weight, count);
-    let moved = moves::moved_finals(&from, count, finals);
+    let from = &from[..count];
+    moves::move_labels(table, from, weight);
+    let moved = moves::moved_finals(from, finals);
     TrimmedTable {
         weight: count,
         finals: moved,
@@ -80,15 +72,14 @@ pub fn trim_standing(table: &mut [u64], weight: usize, finals: u64) -> TrimmedTa
 }
 
 // Trims the table of that weight and those finals: any slice has one answer, and a refusal leaves it as it was.
-pub fn trim(table: &mut [u64], weight: usize, finals: u64) -> TrimAnswer
+pub fn trim(table: &mut [u64], weight: usize, finals: u64) -> Result<TrimmedTable, Refusal>
     ensures { TrimRight table.old table.new weight finals (told result) }
 {
     if table.len() < TABLE_ENTRIES {
-        return TrimAnswer::Refused(Refusal::ShortTable);
+        return Err(Refusal::ShortTable);
     }
     if !outside::stands(table, weight, finals) {
-        return TrimAnswer::Refused(Refusal::NoTable);
+        return Err(Refusal::NoTable);
     }
-    let trimmed = trim_standing(table, weight, finals);
-    TrimAnswer::Trimmed(trimmed)
+    Ok(trim_standing(table, weight, finals))
 }

@@ -12,13 +12,7 @@ fn stray_label(table: &[u64], n: usize, p: usize, q: usize) -> bool
     requires { (table_entries ≤ length table.now) × (p < table_states) × (q < table_states) }
     ensures { Says result (StrayLabel table.now n p q) }
 {
-    if get(table, p, q) == 0 {
-        return false;
-    }
-    if p < n {
-        return n <= q;
-    }
-    true
+    get(table, p, q) != 0 && (n <= p || n <= q)
 }
 
 // Whether row p has such a label.
@@ -26,14 +20,7 @@ fn stray_row(table: &[u64], n: usize, p: usize) -> bool
     requires { (table_entries ≤ length table.now) × (p < table_states) }
     ensures { Says result (StrayRow table.now n p) }
 {
-    let mut q: usize = 0;
-    while q < STATES {
-        if stray_label(table, n, p, q) {
-            return true;
-        }
-        q += 1;
-    }
-    false
+    (0..STATES).any(|q| stray_label(table, n, p, q))
 }
 
 // Whether any row has.
@@ -41,14 +28,7 @@ fn stray_rows(table: &[u64], n: usize) -> bool
     requires { table_entries ≤ length table.now }
     ensures { Says result (StrayRows table.now n) }
 {
-    let mut p: usize = 0;
-    while p < STATES {
-        if stray_row(table, n, p) {
-            return true;
-        }
-        p += 1;
-    }
-    false
+    (0..STATES).any(|p| stray_row(table, n, p))
 }
 
 // Whether a final lies outside n states.
@@ -64,14 +44,8 @@ pub fn stands(table: &[u64], n: usize, finals: u64) -> bool
     requires { table_entries ≤ length table.now }
     ensures { Judged table.now n finals result }
 {
-    if n == 0 {
+    if !(1..=STATES).contains(&n) {
         return false;
     }
-    if n > STATES {
-        return false;
-    }
-    if stray_final(n, finals) {
-        return false;
-    }
-    !stray_rows(table, n)
+    !stray_final(n, finals) && !stray_rows(table, n)
 }

@@ -1,11 +1,8 @@
 // Rules and sequences that are drawn: the plain judge, and the built table followed, must say the same.
 use crate::bytes::front;
 use crate::draws::{draw_letters, draw_rule};
-use crate::show;
-use judge::JudgeAnswer;
 use std::io;
-use tables::TableAnswer;
-use walkers::FollowAnswer;
+use tables::Tabled;
 
 const CASES: usize = 600;
 
@@ -20,32 +17,19 @@ struct Tally {
     apart: u64,
 }
 
-// What one of the two says.
-#[derive(Drop)]
-enum Said {
-    Yes,
-    No,
-    Refused,
-}
-
-fn yes_or_no(matched: bool) -> Said {
-    if matched { Said::Yes } else { Said::No }
-}
-
-fn judge_says(rule: &[u8], letters: &[u8]) -> Said {
+// What the judge says of a sequence; nothing if it refuses.
+fn judge_says(rule: &[u8], letters: &[u8]) -> Option<bool> {
     match judge::judge(rule, letters) {
-        JudgeAnswer::Judged { accepts, rule: _ } => yes_or_no(accepts),
-        JudgeAnswer::Refused(_) => Said::Refused,
+        Ok(j) => Some(j.accepts),
+        Err(_) => None,
     }
 }
 
-fn table_says(rule: &[u8], letters: &[u8], table: &mut [u64]) -> Said {
+// What the table that is followed says; nothing if it is not built or refuses.
+fn table_says(rule: &[u8], letters: &[u8], table: &mut [u64]) -> Option<bool> {
     match tables::build(rule, table) {
-        TableAnswer::Refused(_) => Said::Refused,
-        TableAnswer::Tabled { rule: _, finals } => match walkers::follow(table, finals, letters) {
-            FollowAnswer::Ended(matched) => yes_or_no(matched),
-            FollowAnswer::Refused(_) => Said::Refused,
-        },
+        Ok(Tabled { rule: _, finals }) => walkers::follow(table, finals, letters).ok(),
+        Err(_) => None,
     }
 }
 
@@ -53,46 +37,25 @@ fn one_more(n: u64) -> u64 {
     if n < 1000000 { n + 1 } else { n }
 }
 
-fn apart(t: Tally) -> Tally {
-    Tally {
-        yes: t.yes,
-        no: t.no,
-        refused: t.refused,
-        apart: one_more(t.apart),
+fn tallied(t: Tally, a: Option<bool>, b: Option<bool>) -> Tally {
+    if a != b {
+        return Tally {
+            apart: one_more(t.apart),
+            ..t
+        };
     }
-}
-
-fn tallied(t: Tally, a: Said, b: Said) -> Tally {
     match a {
-        Said::Yes => match b {
-            Said::Yes => Tally {
-                yes: one_more(t.yes),
-                no: t.no,
-                refused: t.refused,
-                apart: t.apart,
-            },
-            Said::No => apart(t),
-            Said::Refused => apart(t),
+        Some(true) => Tally {
+            yes: one_more(t.yes),
+            ..t
         },
-        Said::No => match b {
-            Said::Yes => apart(t),
-            Said::No => Tally {
-                yes: t.yes,
-                no: one_more(t.no),
-                refused: t.refused,
-                apart: t.apart,
-            },
-            Said::Refused => apart(t),
+        Some(false) => Tally {
+            no: one_more(t.no),
+            ..t
         },
-        Said::Refused => match b {
-            Said::Yes => apart(t),
-            Said::No => apart(t),
-            Said::Refused => Tally {
-                yes: t.yes,
-                no: t.no,
-                refused: one_more(t.refused),
-                apart: t.apart,
-            },
+        None => Tally {
+            refused: one_more(t.refused),
+            ..t
         },
     }
 }
@@ -121,15 +84,10 @@ fn one_case(space: &mut [u8], letters: &mut [u8], table: &mut [u64], p: Progress
 }
 
 fn report(rt: &impl Print, t: Tally) -> io::Result<()> {
-    show::text(rt, b"judge and table on drawn rules: both yes ")?;
-    show::number(rt, t.yes)?;
-    show::text(rt, b", both no ")?;
-    show::number(rt, t.no)?;
-    show::text(rt, b", both refused ")?;
-    show::number(rt, t.refused)?;
-    show::text(rt, b", apart ")?;
-    show::number(rt, t.apart)?;
-    show::text(rt, b"\n")
+    println!(rt;
+        "judge and table on drawn rules: both yes {}, both no {}, both refused {}, apart {}",
+        t.yes, t.no, t.refused, t.apart
+    )
 }
 
 fn start() -> Progress {

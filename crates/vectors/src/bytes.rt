@@ -9,8 +9,8 @@ pub fn put_byte(out: &mut [u8], at: usize, b: u8) -> usize {
 
 pub fn put(out: &mut [u8], at: usize, part: &[u8]) -> usize {
     let mut end = at;
-    for i in 0..part.len() {
-        end = put_byte(out, end, part[i]);
+    for b in part {
+        end = put_byte(out, end, *b);
     }
     end
 }

@@ -2,44 +2,41 @@
 use crate::bytes::{front, put, put_many};
 use crate::show;
 use std::io;
-use tables::TableAnswer;
-use walkers::{FollowAnswer, StepAnswer, Walker};
+use tables::Tabled;
+use walkers::{Refusal, Walker};
+
+// Whether a step or a sequence matches, or why there is none.
+fn show_answer(rt: &impl Print, answer: Result<bool, Refusal>) -> io::Result<()> {
+    match answer {
+        Ok(matched) => show::yes_or_no(rt, matched),
+        Err(x) => show::refused(rt, x.number(), x.place()),
+    }
+}
 
 fn follow(
     rt: &impl Print,
-    name: &[u8],
+    name: &str,
     table: &[u64],
     finals: u64,
     letters: &[u8],
 ) -> io::Result<()> {
-    show::text(rt, name)?;
-    show::text(rt, b": ")?;
-    match walkers::follow(table, finals, letters) {
-        FollowAnswer::Ended(matched) => show::yes_or_no(rt, matched)?,
-        FollowAnswer::Refused(x) => show::refused(rt, x.number(), x.place())?,
-    }
-    Ok(())
+    print!(rt; "{name}: ")?;
+    show_answer(rt, walkers::follow(table, finals, letters))
 }
 
 // One step of the walker, and the walker after it.
 fn step(rt: &impl Print, table: &[u64], w: Walker, letter: u8) -> io::Result<Walker> {
     let s = w.step(table, letter);
     let walker = s.walker;
-    show::text(rt, b"  letter ")?;
-    show::number(rt, letter as u64)?;
-    show::text(rt, b", in")?;
+    print!(rt; "  letter {letter}, in")?;
     show::members(rt, walker.set)?;
-    show::text(rt, b": ")?;
-    let answer = s.answer;
-    match answer {
-        StepAnswer::Moved(matched) => show::yes_or_no(rt, matched)?,
-        StepAnswer::Refused(x) => show::refused(rt, x.number(), x.place())?,
-    }
+    print!(rt; ": ")?;
+    show_answer(rt, s.answer)?;
     Ok(walker)
 }
 
 fn steps(rt: &impl Print, table: &[u64], finals: u64) -> io::Result<()> {
-    show::text(rt, b"stepping p0;{p1[*];p2}\n")?;
+    println!(rt; "stepping p0;{{p1[*];p2}}")?;
     let w = Walker::start(finals);
     let w = step(rt, table, w, 1)?;
     let w = step(rt, table, w, 2)?;
@@ -71,7 +68,7 @@ fn without_end(
     let e = put_many(space, e, b"\x02", n);
     follow(
         rt,
-        b"  p0 and p1s without p2",
+        "  p0 and p1s without p2",
         table,
         finals,
         front(space, e),
@@ -88,19 +85,19 @@ fn with_end(
     n: usize,
 ) -> io::Result<()> {
     let e = put(space, n, b"\x04");
-    follow(rt, b"  p0, p1s and p2", table, finals, front(space, e))?;
+    follow(rt, "  p0, p1s and p2", table, finals, front(space, e))?;
     let e = put(space, e, b"\x40");
-    follow(rt, b"  and then no letter", table, finals, front(space, e))
+    follow(rt, "  and then no letter", table, finals, front(space, e))
 }
 
 fn long(rt: &impl Print, space: &mut [u8], table: &[u64], finals: u64) -> io::Result<()> {
-    show::text(rt, b"following p0;{p1[*];p2} over 300 letters and more\n")?;
+    println!(rt; "following p0;{{p1[*];p2}} over 300 letters and more")?;
     let n = without_end(rt, space, table, finals, 300)?;
     with_end(rt, space, table, finals, n)
 }
 
 fn worked(rt: &impl Print, space: &mut [u8], table: &mut [u64]) -> io::Result<()> {
-    if let TableAnswer::Tabled { rule: _, finals } = tables::build(
+    if let Ok(Tabled { rule: _, finals }) = tables::build(
         b"\x12\x10\x01\x00\x12\x17\x10\x01\x01\x10\x01\x02",
         table,
     ) {
@@ -111,8 +108,8 @@ fn worked(rt: &impl Print, space: &mut [u8], table: &mut [u64]) -> io::Result<()
 }
 
 fn nothing(rt: &impl Print, table: &mut [u64]) -> io::Result<()> {
-    if let TableAnswer::Tabled { rule: _, finals } = tables::build(b"\x17\x11", table) {
-        follow(rt, b"empty[*] on []", table, finals, b"")?;
+    if let Ok(Tabled { rule: _, finals }) = tables::build(b"\x17\x11", table) {
+        follow(rt, "empty[*] on []", table, finals, b"")?;
     }
     Ok(())
 }

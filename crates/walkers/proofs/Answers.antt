@@ -3,19 +3,17 @@ use Prim.Native.Nat.{ℕ, ◌+◌, ◌^◌, ◌<◌, ◌≤◌}
 use native.Mathlib.Numerals.{add-one}
 use native.Mathlib.Omega.{arith}
 use mathlib.Core.Path.{◌≡◌, refl, sym, ap, ◌∙◌}
-use mathlib.Core.Logic.{◌≢◌}
-use mathlib.Core.Bool.{true, false, not}
+use mathlib.Core.Bool.{Bool, true, false, not, cond, ◌&&◌, ◌||◌, false≢true}
 use mathlib.Core.List.{List}
 use lib.Bits.{bit_and}
 use lib.Dec.{eqb}
+use Rattle.std.specs.Prelude.{Ok}
 use lib.ListN.{length, get_or, drop}
 use lib.Seq.{drop-cons, drop-length}
-use borrow.Author.Tests.{lt-ltb, le-ltb, ne_eqb}
+use borrow.Author.Tests.{lt-ltb, le-ltb}
 use Rattle.definitions.specs.Definition2.{letter_count}
 use Rattle.definitions.specs.Numbers.{short_slice_number, bad_letter_number, full_count_number}
 use Rattle.walkers.specs.declared.Walker.{Walker}
-use Rattle.walkers.specs.declared.StepAnswer.TheVariants.{Moved}
-use Rattle.walkers.specs.declared.Step.{Step}
 use Rattle.automata.specs.Table.{table_entries}
 use Rattle.steps.specs.Moves.{advanced, meets}
 use Rattle.steps.proofs.Gathering.{advanced_lt, meets_test}
@@ -24,34 +22,48 @@ use Rattle.walkers.specs.Walks.{follow_from, follow_of}
 
 -- ---- the walker after one more letter
 
-module _ (w : Walker) (set : ℕ) (small : set < 2 ^ 64) (v : Walker) where
-  -- a match that there was stays
-  pub led_matched : w.matched ≡ true → v ≡ walker_at set w.finals (w.taken + 1) w.first true → v ≡ led_to_of w set
-  led_matched m e = rw (m) e
+-- of m, whether it matches now, and b, whether it matched before
+first_new : (m b : Bool) (new old : ℕ) → (m && not b) ≡ true → new ≡ cond b old (cond m new old)
+first_new true true new old e = absurd (false≢true e)
+first_new true false new old e = refl
+first_new false b new old e = absurd (false≢true e)
 
-  pub led_unmatched : w.matched ≡ false → bit_and set w.finals ≡ 0 → v ≡ walker_at set w.finals (w.taken + 1) w.first false → v ≡ led_to_of w set
-  led_unmatched m z e = rw (m, ← meets_test set w.finals small, z) e
+first_old : (m b : Bool) (new old : ℕ) → (m && not b) ≡ false → old ≡ cond b old (cond m new old)
+first_old true true new old e = refl
+first_old true false new old e = absurd (false≢true (sym e))
+first_old false true new old e = refl
+first_old false false new old e = refl
 
-  pub led_first : w.matched ≡ false → bit_and set w.finals ≢ 0 → v ≡ walker_at set w.finals (w.taken + 1) (w.taken + 1) true → v ≡ led_to_of w set
-  led_first m z e = rw (m, ← meets_test set w.finals small, ne_eqb (bit_and set w.finals) 0 z) e
+module _ (w : Walker) (set : ℕ) (small : set < 2 ^ 64) (first : ℕ) where
+  abbrev matches : Bool
+  matches = not (eqb (bit_and set w.finals) 0)
+
+  led : first ≡ cond w.matched w.first (cond matches (w.taken + 1) w.first) → walker_at set w.finals (w.taken + 1) first (w.matched || matches) ≡ led_to_of w set
+  led e = rw (e, meets_test set w.finals small)
+
+  pub led_first : (matches && not w.matched) ≡ true → first ≡ w.taken + 1 → walker_at set w.finals (w.taken + 1) first (w.matched || matches) ≡ led_to_of w set
+  led_first h e = led (e ∙ first_new matches w.matched (w.taken + 1) w.first h)
+
+  pub led_on : (matches && not w.matched) ≡ false → first ≡ w.first → walker_at set w.finals (w.taken + 1) first (w.matched || matches) ≡ led_to_of w set
+  led_on h e = led (e ∙ first_old matches w.matched (w.taken + 1) w.first h)
 
 -- ---- one step
 
 module _ (t : List ℕ) (w : Walker) (x : ℕ) where
-  pub step_short : (s : Step) → told s ≡ refused_as w short_slice_number 0 → length t < table_entries → told s ≡ step_of t w x
+  pub step_short : length t < table_entries → step_of t w x ≡ refused_as w short_slice_number 0
   unfolding step_of
-  step_short s e h = rw (lt-ltb (length t) table_entries h) e
+  step_short h = rw (lt-ltb (length t) table_entries h)
 
-  pub step_bad : (s : Step) → told s ≡ refused_as w bad_letter_number 0 → table_entries ≤ length t → letter_count ≤ x → told s ≡ step_of t w x
+  pub step_bad : table_entries ≤ length t → letter_count ≤ x → step_of t w x ≡ refused_as w bad_letter_number 0
   unfolding step_of
-  step_bad s e h l = rw (le-ltb (length t) table_entries h, le-ltb x letter_count l) e
+  step_bad h l = rw (le-ltb (length t) table_entries h, le-ltb x letter_count l)
 
-  pub step_full : (s : Step) → told s ≡ refused_as w full_count_number 0 → table_entries ≤ length t → x < letter_count → largest_count ≤ w.taken → told s ≡ step_of t w x
+  pub step_full : table_entries ≤ length t → x < letter_count → largest_count ≤ w.taken → step_of t w x ≡ refused_as w full_count_number 0
   unfolding step_of
-  step_full s e h l k = rw (le-ltb (length t) table_entries h, lt-ltb x letter_count l, le-ltb w.taken largest_count k) e
+  step_full h l k = rw (le-ltb (length t) table_entries h, lt-ltb x letter_count l, le-ltb w.taken largest_count k)
 
   pub step_moved : (set : ℕ) (v : Walker) → table_entries ≤ length t → x < letter_count → w.taken < largest_count → set ≡ advanced t w.set x → v ≡ led_to_of w set
-      → told (given v (Moved (not (eqb (bit_and set w.finals) 0)))) ≡ step_of t w x
+      → told (given v (Ok (not (eqb (bit_and set w.finals) 0)))) ≡ step_of t w x
   unfolding step_of
   step_moved set v h l k e i = rw (i, e, le-ltb (length t) table_entries h, lt-ltb x letter_count l, lt-ltb w.taken largest_count k, meets_test (advanced t w.set x) w.finals (advanced_lt t w.set x))
 

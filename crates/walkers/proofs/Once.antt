@@ -1,5 +1,6 @@
 -- No second answer fits a promise: what is told determines the answer. Assumes nothing.
-use mathlib.Core.Bool.{true, cond}
+use Rattle.std.specs.Prelude.{Result, Ok, Err}
+use mathlib.Core.Bool.{Bool, true, cond}
 use mathlib.Core.Logic.Iff
 use mathlib.Core.Logic.{◌↔◌}
 use Prim.Native.Nat.{ℕ}
@@ -11,10 +12,6 @@ use Rattle.rules.proofs.Once.{told_once}
 use Rattle.walkers.specs.declared.Walker.{Walker}
 use Rattle.walkers.specs.declared.Refusal.{Refusal}
 use Rattle.walkers.specs.declared.Refusal.TheVariants.{ShortTable, BadLetter, FullCount}
-use Rattle.walkers.specs.declared.StepAnswer.{StepAnswer}
-use Rattle.walkers.specs.declared.StepAnswer.TheVariants as step-variants
-use Rattle.walkers.specs.declared.FollowAnswer.{FollowAnswer}
-use Rattle.walkers.specs.declared.FollowAnswer.TheVariants as follow-variants
 use Rattle.walkers.specs.declared.Step.{Step}
 use Rattle.walkers.specs.Refusals.{number, place}
 use Rattle.walkers.specs.Steps.{Reply, flag, refusal, reply_of, Told, told, given, step_of}
@@ -30,42 +27,34 @@ named_told ShortTable = refl
 named_told (BadLetter i) = refl
 named_told FullCount = refl
 
-abbrev answer_of : Reply → StepAnswer
-answer_of (flag b) = step-variants.Moved b
-answer_of (refusal n i) = step-variants.Refused (named n i)
+abbrev answer_of : Reply → Result Bool Refusal
+answer_of (flag b) = Ok b
+answer_of (refusal n i) = Err (named n i)
 
-answer_back : (a : StepAnswer) → answer_of (reply_of a) ≡ a
-answer_back (step-variants.Moved b) = refl
-answer_back (step-variants.Refused x) = ap step-variants.Refused (named_told x)
+answer_back : (a : Result Bool Refusal) → answer_of (reply_of a) ≡ a
+answer_back (Ok b) = refl
+answer_back (Err x) = ap Err (named_told x)
 
 abbrev back_to_step : Told → Step
 back_to_step d = record { walker = d.walker; answer = answer_of d.says }
 
 step_back : (s : Step) → back_to_step (told s) ≡ s
-step_back s = ap (λ (a : StepAnswer). record { walker = s.walker; answer = a }) (answer_back s.answer)
+step_back s = ap (λ (a : Result Bool Refusal). record { walker = s.walker; answer = a }) (answer_back s.answer)
 
 pub one_step : (t : List ℕ) (w : Walker) (x : ℕ) (r s : Step) → told r ≡ step_of t w x → told s ≡ step_of t w x → r ≡ s
 one_step t w x r s d e = told_once told back_to_step step_back r s (d ∙ sym e)
 
 -- of a walker that is lent: one answer, and one walker left there
-pub one_lent : (t : List ℕ) (w : Walker) (x : ℕ) (v u : Walker) (a b : StepAnswer) → told (given v a) ≡ step_of t w x → told (given u b) ≡ step_of t w x → (a ≡ b) × (v ≡ u)
+pub one_lent : (t : List ℕ) (w : Walker) (x : ℕ) (v u : Walker) (a b : Result Bool Refusal) → told (given v a) ≡ step_of t w x → told (given u b) ≡ step_of t w x → (a ≡ b) × (v ≡ u)
 one_lent t w x v u a b d e = let s = one_step t w x (given v a) (given u b) d e in (λ i. (s i).answer, λ i. (s i).walker)
 
-abbrev back_to_follow : Reply → FollowAnswer
-back_to_follow (flag b) = follow-variants.Ended b
-back_to_follow (refusal n i) = follow-variants.Refused (named n i)
-
-follow_back : (a : FollowAnswer) → back_to_follow (ending a) ≡ a
-follow_back (follow-variants.Ended b) = refl
-follow_back (follow-variants.Refused x) = ap follow-variants.Refused (named_told x)
-
-pub one_follow : (t : List ℕ) (f : ℕ) (l : List ℕ) (r s : FollowAnswer) → ending r ≡ follow_of t f l → ending s ≡ follow_of t f l → r ≡ s
-one_follow t f l r s d e = told_once ending back_to_follow follow_back r s (d ∙ sym e)
+pub one_follow : (t : List ℕ) (f : ℕ) (l : List ℕ) (r s : Result Bool Refusal) → ending r ≡ follow_of t f l → ending s ≡ follow_of t f l → r ≡ s
+one_follow t f l r s d e = told_once ending answer_of answer_back r s (d ∙ sym e)
 
 -- what is told of yes is yes
-pub yes_told : (t : List ℕ) (f : ℕ) (l : List ℕ) (r : FollowAnswer) → ending r ≡ follow_of t f l → (r ≡ follow-variants.Ended true) ↔ (follow_of t f l ≡ flag true)
-yes_told t f l r e = (λ d. sym e ∙ ap ending d, λ d. sym (follow_back r) ∙ ap back_to_follow (e ∙ d))
+pub yes_told : (t : List ℕ) (f : ℕ) (l : List ℕ) (r : Result Bool Refusal) → ending r ≡ follow_of t f l → (r ≡ Ok true) ↔ (follow_of t f l ≡ flag true)
+yes_told t f l r e = (λ d. sym e ∙ ap ending d, λ d. sym (answer_back r) ∙ ap answer_of (e ∙ d))
 
 -- so an answer that fits follows each rule that the table serves
-pub follows : (t : List ℕ) (f : ℕ) (l : List ℕ) (r : FollowAnswer) → ending r ≡ follow_of t f l → Follows t f l r
+pub follows : (t : List ℕ) (f : ℕ) (l : List ℕ) (r : Result Bool Refusal) → ending r ≡ follow_of t f l → Follows t f l r
 follows t f l r e = record { follows = λ a serves long h. Iff.trans (yes_told t f l r e) (follow_sat a t f serves long l h) }

@@ -1,13 +1,12 @@
 -- What one step of a walker gives. Assumes nothing: these are definitions.
-use Rattle.std.specs.Prelude.{ℕ, ◌+◌, Bool, cond, ◌||◌, List, ltb, length}
+use Rattle.std.specs.Prelude.{ℕ, ◌+◌, Bool, cond, ◌||◌, List, ltb, length, Result, Ok, Err}
 use Rattle.bits.specs.Word.{bit}
 use Rattle.definitions.specs.Definition2.{letter_count}
 use Rattle.definitions.specs.Numbers.{short_slice_number, bad_letter_number, full_count_number}
 use Rattle.automata.specs.Table.{table_entries}
 use Rattle.steps.specs.Moves.{advanced, meets}
 use Rattle.walkers.specs.declared.Walker.{Walker}
-use Rattle.walkers.specs.declared.StepAnswer.{StepAnswer}
-use Rattle.walkers.specs.declared.StepAnswer.TheVariants.{Moved, Refused}
+use Rattle.walkers.specs.declared.Refusal.{Refusal}
 use Rattle.walkers.specs.declared.Step.{Step}
 use Rattle.walkers.specs.Refusals.{number, place}
 
@@ -28,9 +27,9 @@ pub data Reply : Type 0 where
   flag : Bool → Reply
   refusal : ℕ → ℕ → Reply
 
-abbrev pub reply_of : StepAnswer → Reply
-reply_of (Moved b) = flag b
-reply_of (Refused x) = refusal (number x) (place x)
+abbrev pub reply_of : Result Bool Refusal → Reply
+reply_of (Ok b) = flag b
+reply_of (Err x) = refusal (number x) (place x)
 
 -- what a step tells: the walker, and the answer in the paper's terms
 pub record Told : Type 0 where
@@ -41,7 +40,7 @@ abbrev pub told : Step → Told
 told s = record { walker = s.walker; says = reply_of s.answer }
 
 -- the step that gives back this walker and says this, as one that was lent tells it
-abbrev pub given : Walker → StepAnswer → Step
+abbrev pub given : Walker → Result Bool Refusal → Step
 given w a = record { walker = w; answer = a }
 
 -- the walker after one more letter, which led it to the set: the count is one more, and the first match is this one only if there was none

@@ -1,16 +1,14 @@
 -- What a walk over a sequence of letters gives. Assumes nothing: these are definitions.
-use Rattle.std.specs.Prelude.{true, cond, ℕ, ◌+◌, ◌≤◌, ◌≡◌, ◌↔◌, List, [], ◌∷◌, ltb, length}
+use Rattle.std.specs.Prelude.{Bool, true, cond, ℕ, ◌+◌, ◌≤◌, ◌≡◌, ◌↔◌, List, [], ◌∷◌, ltb, length, Result, Ok}
 use Rattle.definitions.specs.Definition1.{Rule}
 use Rattle.definitions.specs.Definition2.{letter_count, Sat}
 use Rattle.definitions.specs.Numbers.{short_slice_number, bad_letter_number}
 use Rattle.walkers.specs.declared.Walker.{Walker}
-use Rattle.walkers.specs.declared.FollowAnswer.{FollowAnswer}
-use Rattle.walkers.specs.declared.FollowAnswer.TheVariants.{Ended, Refused}
+use Rattle.walkers.specs.declared.Refusal.{Refusal}
 use Rattle.automata.specs.Table.{table_states, table_entries, table_of}
 use Rattle.automata.specs.Promise.{Letters, Serves}
 use Rattle.steps.specs.Moves.{advanced, meets}
-use Rattle.walkers.specs.Refusals.{number, place}
-use Rattle.walkers.specs.Steps.{start_of, Reply, flag, refusal, step_of}
+use Rattle.walkers.specs.Steps.{start_of, Reply, flag, refusal, reply_of, step_of}
 
 -- the letters from place i on: the first that is no letter is refused, and after the last it is told whether a final is in the set
 unfoldable pub follow_from : List ℕ → ℕ → ℕ → ℕ → List ℕ → Reply
@@ -22,9 +20,8 @@ unfoldable pub follow_of : List ℕ → ℕ → List ℕ → Reply
 follow_of t finals w = cond (ltb (length t) table_entries) (refusal short_slice_number 0) (follow_from t finals (start_of finals).set 0 w)
 
 -- an answer of `follow` in the paper's terms
-abbrev pub ending : FollowAnswer → Reply
-ending (Ended b) = flag b
-ending (Refused x) = refusal (number x) (place x)
+abbrev pub ending : Result Bool Refusal → Reply
+ending = reply_of
 
 -- what the last step of a walker tells; before any, what `before` says
 unfoldable pub last_says : List ℕ → Walker → Reply → List ℕ → Reply
@@ -32,5 +29,5 @@ last_says t w before [] = before
 last_says t w before (x ∷ l) = last_says t (step_of t w x).walker (step_of t w x).says l
 
 -- over a table that serves a rule, all of its states counted, yes is said exactly if Definition 2 accepts the letters
-pub record Follows (t : List ℕ) (finals : ℕ) (w : List ℕ) (answer : FollowAnswer) : Type 0 where
-  pub follows : (r : Rule) → Serves (table_of t table_states finals) r → table_entries ≤ length t → Letters w → (answer ≡ Ended true) ↔ Sat r w
+pub record Follows (t : List ℕ) (finals : ℕ) (w : List ℕ) (answer : Result Bool Refusal) : Type 0 where
+  pub follows : (r : Rule) → Serves (table_of t table_states finals) r → table_entries ≤ length t → Letters w → (answer ≡ Ok true) ↔ Sat r w

@@ -1,15 +1,20 @@
-// Follows letters through a lent table: a walker that is stepped, and a whole sequence at once.
+// Follows letters through a lent table, in whatever layout: a walker that is stepped, and a whole sequence at once.
 #![tactic(auto)]
 
-ghost use Rattle.std.specs.Prelude.{◌≡◌, ◌<◌};
+ghost use Rattle.std.specs.Prelude.{◌≡◌, ◌<◌, ◌≤◌, length, IfErr, OnOk, OkIff, IsOkUnless};
+ghost use Rattle.definitions.specs.Definition2.{letter_count};
+ghost use Rattle.automata.specs.Table.{table_entries};
+ghost use Rattle.walkers.specs.declared.Refusal.TheVariants.{ShortTable, BadLetter};
 ghost use Rattle.walkers.specs.Refusals.{number, place};
 ghost use Rattle.walkers.specs.Steps.{largest_count, walker_at, start_of, refused_as, led_to_of, given, told, step_of};
 ghost use Rattle.walkers.specs.Walks.{follow_of, ending, Follows};
 
+use crate::layouts::{Labels, Layout};
 use automata::TABLE_ENTRIES;
 use definitions::numbers::{BAD_LETTER, FULL_COUNT, SHORT_SLICE};
 use formulas::LETTER_COUNT;
-use steps::advance;
+
+pub mod layouts; // what a walk asks of a table
 
 // A letter is below this.
 pub const LETTERS: u8 = LETTER_COUNT as u8;
@@ -18,8 +23,8 @@ pub const LETTERS: u8 = LETTER_COUNT as u8;
 pub const LARGEST_COUNT: u32 = 4294967295;
 
 // The states that it may be in, and the final states; how many letters it has taken, how many it had taken at its first
-// match, 0 if there is none yet, and whether there is one.
-#[derive(Clone, Copy)]
+// match, 0 if there is none yet, and whether there is one. A caller in C may hand over any pair of the two.
+#[derive(Clone, Copy, Debug, PartialEq, Eq)]
 pub struct Walker {
     pub set: u64,
     pub finals: u64,
@@ -29,7 +34,7 @@ pub struct Walker {
 }
 
 // Why there is no step.
-#[derive(Clone, Copy)]
+#[derive(Clone, Copy, Debug, PartialEq, Eq)]
 pub enum Refusal {
     // the table has too few entries
     ShortTable,
@@ -63,29 +68,15 @@ impl Refusal {
     }
 }
 
-// What a step says: whether a final is in the set that it moved to.
-#[derive(Clone, Copy)]
-pub enum StepAnswer {
-    Moved(bool),
-    Refused(Refusal),
-}
-
-// The walker that a step gives back, beside what it says.
-#[derive(Drop)]
+// The walker that a step gives back, and whether a final is in the set that it moved to; it is given back where it was refused, too.
+#[derive(Clone, Copy, Debug, PartialEq, Eq)]
 pub struct Step {
     pub walker: Walker,
-    pub answer: StepAnswer,
-}
-
-// What a whole sequence says: whether a final is in the set at its end.
-#[derive(Drop)]
-pub enum FollowAnswer {
-    Ended(bool),
-    Refused(Refusal),
+    pub answer: Result<bool, Refusal>,
 }
 
 impl Walker {
-    // A walker with these fields: every walker is made here.
+    // A walker with these fields.
     pub fn at(set: u64, finals: u64, taken: u32, first: u32, matched: bool) -> Walker
         ensures { result ≡ walker_at set finals taken first matched }
     {
@@ -111,7 +102,7 @@ impl Walker {
     {
         Step {
             walker: self,
-            answer: StepAnswer::Refused(x),
+            answer: Err(x),
         }
     }
 
@@ -121,62 +112,111 @@ impl Walker {
         ensures { result ≡ led_to_of self set }
     {
         let taken = self.taken + 1;
-        if self.matched {
-            return Walker::at(set, self.finals, taken, self.first, true);
+        let matches = set & self.finals != 0;
+        let is_first = matches & !self.matched;
+        Walker {
+            set,
+            finals: self.finals,
+            taken,
+            first: if is_first { taken } else { self.first },
+            matched: self.matched | matches,
         }
-        if set & self.finals == 0 {
-            return Walker::at(set, self.finals, taken, self.first, false);
-        }
-        Walker::at(set, self.finals, taken, taken, true)
     }
 
     // The walker moved by the letter; a refusal gives it back as it came.
     pub fn step(self, table: &[u64], letter: u8) -> Step
         ensures { told result ≡ step_of table.now self letter }
     {
-        if table.len() < TABLE_ENTRIES {
-            return self.refused(Refusal::ShortTable);
-        }
-        if letter >= LETTERS {
-            return self.refused(Refusal::BadLetter(0));
-        }
-        if self.taken >= LARGEST_COUNT {
-            return self.refused(Refusal::FullCount);
-        }
-        let set = advance(table, self.set, letter);
-        Step {
-            walker: self.led_to(set),
-            answer: StepAnswer::Moved(set & self.finals != 0),
-        }
+        step_on(self, &Labels(table), letter)
     }
 }
 
 // The walker stepped where it stands: it is then what `step` gives back.
-pub fn step_lent(walker: &mut Walker, table: &[u64], letter: u8) -> StepAnswer
+pub fn step_lent(walker: &mut Walker, table: &[u64], letter: u8) -> Result<bool, Refusal>
     ensures { told (given walker.new result) ≡ step_of table.now walker.old letter }
 {
-    let s = (*walker).step(table, letter);
+    step_lent_on(walker, &Labels(table), letter)
+}
+
+// Whether the letters lead from state 0 to a final state.
+pub fn follow(table: &[u64], finals: u64, letters: &[u8]) -> Result<bool, Refusal>
+    ensures result_value { ending result ≡ follow_of table.now finals letters.now }
+    ensures follows { Follows table.now finals letters.now result }
+{
+    follow_on(&Labels(table), finals, letters)
+}
+
+// Refuses what has fewer entries than a table.
+#[inline]
+fn table_fits<L: Layout>(layout: &L) -> Result<(), Refusal>
+    ensures exactly { OkIff result (table_entries ≤ length (L.table layout.now)) tt }
+    ensures refusal { IsOkUnless result ShortTable }
+{
+    if layout.entries() < TABLE_ENTRIES {
+        return Err(Refusal::ShortTable);
+    }
+    Ok(())
+}
+
+// Refuses what is no letter; it stands at i.
+#[inline]
+fn letter_fits(letter: u8, i: usize) -> Result<(), Refusal>
+    ensures exactly { OkIff result (letter < letter_count) tt }
+    ensures refusal { IsOkUnless result (BadLetter i) }
+{
+    if letter >= LETTERS {
+        return Err(Refusal::BadLetter(i));
+    }
+    Ok(())
+}
+
+// Refuses a step that cannot be made: a table that is too short comes first, then what is no letter, then a full count.
+#[inline]
+fn step_fits<L: Layout>(walker: Walker, layout: &L, letter: u8) -> Result<(), Refusal>
+    ensures ok { OnOk result ((table_entries ≤ length (L.table layout.now)) × (letter < letter_count) × (walker.taken < largest_count)) }
+    ensures err { IfErr result (λ x. step_of (L.table layout.now) walker letter ≡ refused_as walker (number x) (place x)) }
+{
+    table_fits(layout)?;
+    letter_fits(letter, 0)?;
+    if walker.taken >= LARGEST_COUNT {
+        return Err(Refusal::FullCount);
+    }
+    Ok(())
+}
+
+// The walker moved by the letter, over a table in any layout; a refusal gives it back as it came.
+pub fn step_on<L: Layout>(walker: Walker, layout: &L, letter: u8) -> Step
+    ensures { told result ≡ step_of (L.table layout.now) walker letter }
+{
+    if let Err(x) = step_fits(walker, layout, letter) {
+        return walker.refused(x);
+    }
+    let set = layout.advance(walker.set, letter);
+    Step {
+        walker: walker.led_to(set),
+        answer: Ok(set & walker.finals != 0),
+    }
+}
+
+// The walker stepped where it stands: it is then what `step_on` gives back.
+pub fn step_lent_on<L: Layout>(walker: &mut Walker, layout: &L, letter: u8) -> Result<bool, Refusal>
+    ensures { told (given walker.new result) ≡ step_of (L.table layout.now) walker.old letter }
+{
+    let s = step_on(*walker, layout, letter);
     *walker = s.walker;
     s.answer
 }
 
-// Whether the letters lead from state 0 to a final state.
-pub fn follow(table: &[u64], finals: u64, letters: &[u8]) -> FollowAnswer
-    ensures result_value { ending result ≡ follow_of table.now finals letters.now }
-    ensures follows { Follows table.now finals letters.now result }
+// Whether the letters lead from state 0 to a final state, over a table in any layout.
+pub fn follow_on<L: Layout>(layout: &L, finals: u64, letters: &[u8]) -> Result<bool, Refusal>
+    ensures result_value { ending result ≡ follow_of (L.table layout.now) finals letters.now }
+    ensures follows { Follows (L.table layout.now) finals letters.now result }
 {
-    if table.len() < TABLE_ENTRIES {
-        return FollowAnswer::Refused(Refusal::ShortTable);
-    }
+    table_fits(layout)?;
     let mut set: u64 = 1;
-    let mut i = 0;
-    while i < letters.len() {
-        let letter = letters[i];
-        if letter >= LETTERS {
-            return FollowAnswer::Refused(Refusal::BadLetter(i));
-        }
-        set = advance(table, set, letter);
-        i += 1;
+    for (i, letter) in letters.iter().enumerate() {
+        letter_fits(*letter, i)?;
+        set = layout.advance(set, *letter);
     }
-    FollowAnswer::Ended(set & finals != 0)
+    Ok(set & finals != 0)
 }

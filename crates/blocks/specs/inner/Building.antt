@@ -1,5 +1,5 @@
 -- What the walk that fills a table asks and promises, and what each operator does to its operands' blocks. Assumes nothing: these are definitions.
-use Rattle.std.specs.Prelude.{ℕ, ◌+◌, ◌*◌, ◌<◌, ◌≤◌, ◌≡◌, List, length}
+use Rattle.std.specs.Prelude.{ℕ, ◌+◌, ◌<◌, ◌≤◌, ◌≡◌, List, length}
 use Rattle.definitions.specs.declared.kinds.Pair.{Pair}
 use Rattle.definitions.specs.declared.kinds.Pair.TheVariants.{Then, Overlap, Either, Within, Both}
 use Rattle.definitions.specs.declared.kinds.Repeat.{Repeat}
@@ -10,10 +10,8 @@ use Rattle.definitions.specs.Definition2.{letter_count, holds}
 use Rattle.rules.specs.Places.{RuleAt}
 use Rattle.rules.specs.Weight.{weight_of, pair_weight, weight_limit}
 use Rattle.automata.specs.declared.shape.Shape.{Shape}
-use Rattle.blocks.specs.declared.product.Pairs.{Pairs}
-use Rattle.blocks.specs.declared.fill.Place.{Place}
-use Rattle.blocks.specs.declared.fill.Place.TheVariants.{Nowhere, From}
-use Rattle.automata.specs.Table.{table_states, table_entries}
+use Rattle.std.specs.Prelude.{Option, Some, None}
+use Rattle.automata.specs.Table.{table_entries}
 use Rattle.automata.specs.inner.Cells.{Clean}
 use Rattle.automata.specs.inner.Block.{Beside, Built}
 use Rattle.automata.specs.inner.Shapes.{ShapeOf}
@@ -60,19 +58,11 @@ pub record TallyOf (label j : ℕ) (t t' : List ℕ) (base : ℕ) : Type 0 where
   pub tally : (i : ℕ) (f : Formula) → Clean t base → label ≡ word letter_count (holds f) → Built t t' base (occurs i j f)
 
 -- where the operands are wanted: in the operator's square, or nowhere, since it has no label
-pub data Placed (p : Pair) (base m n : ℕ) : Place → Type 0 where
-  nowhere : ((t : List ℕ) (x y : Rule) → Clean t base → m ≡ weight_of x → n ≡ weight_of y → Built t t base (two p x y)) → Placed p base m n Nowhere
-  from : (lo : ℕ) → lo ≡ operands_from p base → base ≤ lo → lo + (m + n) ≤ base + pair_weight p m n → Placed p base m n (From lo)
+pub data Placed (p : Pair) (base m n : ℕ) : Option ℕ → Type 0 where
+  nowhere : ((t : List ℕ) (x y : Rule) → Clean t base → m ≡ weight_of x → n ≡ weight_of y → Built t t base (two p x y)) → Placed p base m n None
+  from : (lo : ℕ) → lo ≡ operands_from p base → base ≤ lo → lo + (m + n) ≤ base + pair_weight p m n → Placed p base m n (Some lo)
 
 -- so for whatever operands stand behind the place
-pub record PlacedAt (s : List ℕ) (at : ℕ) (p : Pair) (base : ℕ) (r : Place) : Type 0 where
+pub record PlacedAt (s : List ℕ) (at : ℕ) (p : Pair) (base : ℕ) (r : Option ℕ) : Type 0 where
   pub placed : (x y : Rule) (d e : ℕ) → RuleAt s (at + 1) x d → RuleAt s d y e → base + pair_weight p (weight_of x) (weight_of y) ≤ weight_limit
       → Placed p base (weight_of x) (weight_of y) r
-
--- the pairs stand in a table, and the operands in a copy of so many entries
-pub record PairsFit (s : Pairs) (entries : ℕ) : Type 0 where
-  pub some : 0 < s.n
-  pub square : s.base + s.m * s.n ≤ table_states
-  pub beside : s.m ≤ s.second
-  pub last : s.second + s.n ≤ table_states
-  pub copied : table_states * (s.second + s.n) ≤ entries

@@ -32,6 +32,16 @@ pub record Filled (before after : List ℕ) (base k : ℕ) (v : ℕ → ℕ) : T
 abbrev pub RowPut : List ℕ → List ℕ → ℕ → (ℕ → ℕ) → Type 0
 RowPut before after base v = Filled before after base model_states v
 
+-- each word of the first k of the row at base is made of its state and of what stood there, and nothing else has changed
+pub record Made (before after : List ℕ) (base k : ℕ) (made : ℕ → ℕ → ℕ → Type 0) : Type 0 where
+  pub size : length after ≡ length before
+  pub here : (x : ℕ) → x < k → made x (get_or before (base + x) 0) (get_or after (base + x) 0)
+  pub below : (i : ℕ) → i < base → get_or after i 0 ≡ get_or before i 0
+  pub past : (i : ℕ) → base + k ≤ i → get_or after i 0 ≡ get_or before i 0
+
+abbrev pub RowMade : List ℕ → List ℕ → ℕ → (ℕ → ℕ → ℕ → Type 0) → Type 0
+RowMade before after base made = Made before after base model_states made
+
 -- a formula stands at `at`, and there is room for its rows and its operands' from base on: a second operand, whose row is the next, begins two bytes further on at least
 pub record RowsRoom (s : List ℕ) (at : ℕ) (grid : List ℕ) (base : ℕ) : Type 0 where
   pub stands : GoodFormula s true at

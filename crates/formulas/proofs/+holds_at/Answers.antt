@@ -25,7 +25,7 @@ pub bounds-rule-at-in-Proposition : goal.bounds-rule-at-in-Proposition
 bounds-rule-at-in-Proposition t c = let s = c.args.rule.now in let at = c.args.at in let g = c.requires in let l = formula_here s at g in let q : kind_of (get_or s at 0) ≡ OfFormula Proposition = sym c.kind_of.ensures ∙ c.in-OfFormula.is ∙ ap OfFormula c.in-Proposition.is in (good_body s at g q).0
 
 pub overflow_cast-rule : goal.overflow_cast-rule
-overflow_cast-rule t c = omega (arith, c.shared_slice_known-in-Proposition-1.given (c.args.at + 1))
+overflow_cast-rule t c = omega (arith, c.type_inv.rule (c.args.at + 1))
 
 pub has-requires : goal.has-requires
 has-requires t c = let s = c.args.rule.now in let at = c.args.at in let g = c.requires in let l = formula_here s at g in let q : kind_of (get_or s at 0) ≡ OfFormula Proposition = sym c.kind_of.ensures ∙ c.in-OfFormula.is ∙ ap OfFormula c.in-Proposition.is in let b = (good_body s at g q).1 in omega arith

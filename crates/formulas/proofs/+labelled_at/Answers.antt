@@ -36,10 +36,10 @@ bounds-rule-body t c = let s = c.args.rule.now in
     (good_body s at g q).0
 
 pub overflow_cast-result : goal.overflow_cast-result
-overflow_cast-result t c = omega (arith, c.shared_slice_known-in-Proposition-1.given (c.args.at + 1))
+overflow_cast-result t c = omega (arith, c.type_inv.rule (c.args.at + 1))
 
 pub offset_bounds-propositions-rule : goal.offset_bounds-propositions-rule
-offset_bounds-propositions-rule t c = record { fits = omega (arith, c.shared_slice_known-in-Proposition-1.given (c.args.at + 1)) }
+offset_bounds-propositions-rule t c = record { fits = omega (arith, c.type_inv.rule (c.args.at + 1)) }
 
 pub bounds-propositions-rule : goal.bounds-propositions-rule
 bounds-propositions-rule t c = let s = c.args.rule.now in

@@ -4,6 +4,7 @@ use Rattle.std.specs.Prelude.{ℕ, cond, List, [], ◌∷◌, ◌++◌, eqb}
 use Rattle.definitions.specs.Definition1.{Rule, letter, empty, two, again, counted, occurs}
 use Rattle.definitions.specs.Encoding.{pair_byte, repeat_byte, spell_f}
 use Rattle.grammar.specs.declared.signs.Head.{Head}
+use Rattle.grammar.specs.declared.signs.Head.TheVariants as head
 use Rattle.grammar.specs.inner.Reading.{Counts, uncounted, from, Bracket, plus, starred}
 
 -- no byte of a rule
@@ -13,12 +14,16 @@ filler = 255
 abbrev pub head_length : ℕ
 head_length = 3
 
-abbrev pub head_bytes : Head → List ℕ
-head_bytes h = h.kind ∷ h.low ∷ h.high ∷ []
-
 -- of a kind that has no counts
 abbrev pub plain_head : ℕ → List ℕ
 plain_head kind = kind ∷ filler ∷ filler ∷ []
+
+abbrev pub head_bytes : Head → List ℕ
+head_bytes head.Letter = plain_head 0x10
+head_bytes (head.Two p) = plain_head (pair_byte p)
+head_bytes (head.Again p) = plain_head (repeat_byte p)
+head_bytes (head.Counted i j) = 0x19 ∷ i ∷ j ∷ []
+head_bytes (head.Occurs i j) = 0x1A ∷ i ∷ j ∷ []
 
 abbrev pub bracket_head : Bracket → List ℕ
 bracket_head plus = plain_head 0x18

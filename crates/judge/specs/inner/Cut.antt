@@ -1,13 +1,11 @@
 -- Definition 2 for one part, from i to e, over the answers a and b of the operands: a line for each operator. Assumes nothing: these are definitions.
 use Rattle.std.specs.Prelude.{ℕ, ◌+◌, ◌-◌, ◌≤◌, ◌<◌, ◌≡◌, ◌⊎◌, true, List, length, get_or}
-use Rattle.bits.specs.Word.{num, many}
+use Rattle.bits.specs.Word.{many}
 use Rattle.definitions.specs.declared.counts.Counts.{Counts}
 use Rattle.definitions.specs.declared.kinds.Pair.{Pair}
 use Rattle.definitions.specs.declared.kinds.Pair.TheVariants.{Then, Overlap, Either, Within, Both}
 use Rattle.definitions.specs.Definition1.{Formula}
 use Rattle.definitions.specs.Definition2.{holds}
-use Rattle.judge.specs.declared.cuts.Operator.{Operator}
-use Rattle.judge.specs.declared.cuts.Operator.TheVariants.{Two, Star, Occurs}
 use Rattle.judge.specs.Parts.{yes, Filled}
 
 -- the part is the one letter of w at i, and f holds in it
@@ -68,20 +66,10 @@ StarAt a rest i e = (i ≡ e) ⊎ StepAt a rest i e
 abbrev pub letters_at_of : List ℕ → ℕ → ℕ → ℕ
 letters_at_of a i e = many (e - i) (λ k. yes a (i + k) (i + k + 1))
 
--- r is n, and one more where the letter at k is accepted
-pub record CountedOn (a : List ℕ) (k n r : ℕ) : Type 0 where
-  pub is : r ≡ num (yes a k (k + 1)) + n
-
 -- `[=i..j]`; a accepts the letters that satisfy the formula
 pub record OccursAt (c : Counts) (a : List ℕ) (i e : ℕ) : Type 0 where
   pub low : c.low ≤ letters_at_of a i e
   pub high : letters_at_of a i e ≤ c.high
-
--- one cell of an operator's answers
-abbrev pub CellAt : Operator → List ℕ → List ℕ → ℕ → ℕ → Type 0
-CellAt (Two p) a b i e = PairAt p a b i e
-CellAt Star a b i e = StarAt a b i e
-CellAt (Occurs c) a b i e = OccursAt c a i e
 
 -- `[+]`: a first part, and a rest that `[*]` accepts
 pub record PlusOf (a r : List ℕ) : Type 0 where

@@ -14,10 +14,10 @@ pub record BothLong (given to : List ℕ) : Type 0 where
 abbrev pub Lies : List ℕ → ℕ → ℕ → Type 0
 Lies words base step = (k : ℕ) → k < side → base + step * k < length words
 
--- the block has the words of the first n of these places
-pub record ReadOut (words block block' : List ℕ) (base step n : ℕ) : Type 0 where
-  pub size : length block' ≡ length block
-  pub new : (k : ℕ) → k < n → get_or block' k 0 ≡ get_or words (base + step * k) 0
+-- the block has the words of these places
+pub record ReadOut (words block : List ℕ) (base step : ℕ) : Type 0 where
+  pub size : length block ≡ side
+  pub new : (k : ℕ) → k < side → get_or block k 0 ≡ get_or words (base + step * k) 0
 
 -- the first n of these places have the words of the block, and what stands elsewhere is as it was
 pub record WrittenTo (words words' block : List ℕ) (base step n : ℕ) : Type 0 where

@@ -11,14 +11,13 @@ use Rattle.rules.proofs.Accepting.{not_refused, accepted_once}
 use Rattle.rules.proofs.Once.{told_once, handed_on, handed_on_lem}
 use Rattle.tables.specs.declared.Refusal.{Refusal}
 use Rattle.tables.specs.declared.Refusal.TheVariants.{OfRule, ShortTable}
-use Rattle.tables.specs.declared.TableAnswer.{TableAnswer}
-use Rattle.tables.specs.declared.TableAnswer.TheVariants.{Tabled, Refused}
+use Rattle.std.specs.Prelude.{Ok, Err}
 use Rattle.tables.specs.Refusals.{number, place}
 use Rattle.automata.specs.Table.{table_states, table_entries, table_of}
 use Rattle.automata.specs.Promise.{Serves}
 use Rattle.automata.specs.IsTable.{IsTable, Words}
 use Rattle.tables.specs.Beyond.{Beyond}
-use Rattle.tables.specs.Answer.{Result, tabled, refused, told, BuildRight, rule_refused, short_table, the_table}
+use Rattle.tables.specs.Answer.{Result, TableAnswer, tabled, refused, told, BuildRight, rule_refused, short_table, the_table}
 use Rattle.tables.proofs.promise.Beyonds.{beyond_once}
 use Rattle.automata.proofs.Serving.{one_table, one_finals, serves}
 
@@ -60,12 +59,12 @@ named_told (OfRule x) = handed_on_lem OfRule _ x
 named_told ShortTable = refl
 
 abbrev meant : Result → TableAnswer
-meant (tabled k f) = Tabled k f
-meant (refused n p) = Refused (named n p)
+meant (tabled k f) = Ok (record { rule = k; finals = f })
+meant (refused n p) = Err (named n p)
 
 meant_told : (a : TableAnswer) → meant (told a) ≡ a
-meant_told (Tabled k f) = refl
-meant_told (Refused x) = ap Refused (named_told x)
+meant_told (Ok t) = refl
+meant_told (Err x) = ap Err (named_told x)
 
 -- no second answer and no second slice fit the promise of `build`
 pub one_answer : (s t u v : List ℕ) (a b : TableAnswer) → Words u → Words v → BuildRight s t u (told a) → BuildRight s t v (told b) → (a ≡ b) × (u ≡ v)

@@ -6,8 +6,7 @@ use mathlib.Core.List.{List}
 use lib.ListN.{length, get_or}
 use Rattle.rules.specs.declared.Known.{Known}
 use Rattle.definitions.specs.declared.Refusal.{Refusal}
-use Rattle.rules.specs.declared.RuleAnswer.{RuleAnswer}
-use Rattle.rules.specs.declared.RuleAnswer.TheVariants.{Accepted, Refused}
+use Rattle.std.specs.Prelude.{Ok, Err}
 use Rattle.definitions.specs.Definition1.{Rule}
 use Rattle.definitions.specs.Refusals.{number, place}
 use Rattle.definitions.specs.Numbers.{short_slice_number}
@@ -52,11 +51,11 @@ module _ (s t t₁ t₂ : List ℕ) (l : table_entries ≤ length t) (clear : Pu
           (record { size = d'; rest = past_at r a.light made })
 
 -- the cases of `build`
-module _ (s : List ℕ) (a : RuleAnswer) (q : rules.told a ≡ answer s) where
-  pub right_refused : (t : List ℕ) (x : Refusal) → a ≡ Refused x → BuildRight s t t (refused (number x) (place x))
+module _ (s : List ℕ) (a : rules.RuleAnswer) (q : rules.told a ≡ answer s) where
+  pub right_refused : (t : List ℕ) (x : Refusal) → a ≡ Err x → BuildRight s t t (refused (number x) (place x))
   right_refused t x e = rule_refused (sym q ∙ ap rules.told e) refl
 
-  module _ (k : Known) (e : a ≡ Accepted k) where
+  module _ (k : Known) (e : a ≡ Ok k) where
     pub the_rule : (r : Rule) × AcceptedAs s r × (k ≡ known_of r)
     the_rule = accepted_rule s k (sym q ∙ ap rules.told e)
 

@@ -11,8 +11,8 @@ returns-then-table-lt-TABLE_ENTRIES c = right_short _ _ _ (omega arith)
 pub returns-then-not-stands : goal.returns-then-not-stands
 returns-then-not-stands c = right_outside _ _ _ _ c.stands.ensures (omega arith) (ap not c.if-not-stands.true)
 
-pub trim_standing-trimmed-requires : goal.trim_standing-trimmed-requires
-trim_standing-trimmed-requires c = (omega arith, stands_of _ _ _ _ c.stands.ensures (omega arith) (ap not c.if-not-stands.false))
+pub trim_standing-requires : goal.trim_standing-requires
+trim_standing-requires c = (omega arith, stands_of _ _ _ _ c.stands.ensures (omega arith) (ap not c.if-not-stands.false))
 
 pub returns : goal.returns
-returns c = right_trimmed _ _ _ _ c.stands.ensures (omega arith) (ap not c.if-not-stands.false) c.trim_standing-trimmed.ensures
+returns c = right_trimmed _ _ _ _ c.stands.ensures (omega arith) (ap not c.if-not-stands.false) c.trim_standing.ensures

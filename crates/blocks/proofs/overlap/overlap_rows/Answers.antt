@@ -1,12 +1,7 @@
 -- `blocks::overlap::overlap_rows` meets its contract. Assumes nothing.
-use mathlib.Core.Path.{refl}
 use native.Mathlib.Omega.{arith}
-use Rattle.automata.proofs.Puts.{put_as, put_none}
 use Rattle.blocks.proofs.Overlapping.{overlap_down}
 use Rattle.blocks.proofs.overlap.overlap_rows.Goals as goal
-
-pub loop-p-init : goal.loop-p-init
-loop-p-init c = (omega arith, omega arith, refl, put_none _ _ _ _ _ _ (omega arith))
 
 pub loop-p-preserved : goal.loop-p-preserved
 loop-p-preserved c = (
@@ -15,9 +10,3 @@ loop-p-preserved c = (
   omega (arith, c.overlap_row.auto.t),
   overlap_down _ _ _ _ _ _ _ _ (omega arith) (omega arith) (omega arith) (omega arith) c.loop-p.invariant.3 c.overlap_row.ensures,
 )
-
-pub shape_of-t : goal.shape_of-t
-shape_of-t c = c.loop-p.invariant.2
-
-pub returns : goal.returns
-returns c = put_as c.loop-p.invariant.3 refl (omega arith) refl refl (λ p q i. refl)

@@ -1,12 +1,9 @@
 -- `blocks::row::double` meets its contract. Assumes nothing.
 use mathlib.Core.Path.{refl}
 use native.Mathlib.Omega.{arith}
-use Rattle.automata.proofs.Puts.{put_none, put_down, put_as}
+use Rattle.automata.proofs.Puts.{put_down, put_as}
 use Rattle.blocks.proofs.Rowing.{doubled_same}
 use Rattle.blocks.proofs.row.double.Goals as goal
-
-pub loop-i-init : goal.loop-i-init
-loop-i-init c = (omega arith, refl, put_none _ _ _ _ _ _ (omega arith))
 
 pub loop-i-preserved : goal.loop-i-preserved
 loop-i-preserved c = let inv = c.loop-i.invariant.2 in (
@@ -16,9 +13,3 @@ loop-i-preserved c = let inv = c.loop-i.invariant.2 in (
       (put_down _ (omega arith) (omega arith) (omega arith) inv c.double_row.ensures (λ p q i. doubled_same _ _ _ _ _ p q (omega arith) inv (omega arith)))
       refl (omega arith) refl refl (λ p q i. refl),
 )
-
-pub shape_of-t : goal.shape_of-t
-shape_of-t c = c.loop-i.invariant.1
-
-pub returns : goal.returns
-returns c = put_as c.loop-i.invariant.2 refl (omega arith) refl refl (λ p q i. refl)

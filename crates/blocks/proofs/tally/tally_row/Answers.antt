@@ -3,9 +3,6 @@ use native.Mathlib.Omega.{arith}
 use Rattle.blocks.proofs.Tallies.{both_stored, one_stored}
 use Rattle.blocks.proofs.tally.tally_row.Goals as goal
 
-pub put-requires-then-p-hi : goal.put-requires-then-p-hi
-put-requires-then-p-hi c = omega (arith, c.put.auto.t)
-
 pub returns-then-p-hi : goal.returns-then-p-hi
 returns-then-p-hi c = λ lo l. both_stored _ _ _ _ _ _ _ lo l (omega arith) (omega arith) (omega arith) c.put.ensures c.put-then-p-hi.ensures
 

@@ -1,12 +1,8 @@
 -- `blocks::tally::tally_rows` meets its contract. Assumes nothing.
-use mathlib.Core.Path.{refl}
 use native.Mathlib.Omega.{arith}
-use Rattle.automata.proofs.Puts.{put_none, put_down, put_as}
+use Rattle.automata.proofs.Puts.{put_down}
 use Rattle.blocks.proofs.Tallies.{tallied_same}
 use Rattle.blocks.proofs.tally.tally_rows.Goals as goal
-
-pub loop-p-init : goal.loop-p-init
-loop-p-init c = (omega arith, omega arith, refl, put_none _ _ _ _ _ _ (omega arith))
 
 pub loop-p-preserved : goal.loop-p-preserved
 loop-p-preserved c = let inv = c.loop-p.invariant.3 in (
@@ -15,9 +11,3 @@ loop-p-preserved c = let inv = c.loop-p.invariant.3 in (
   omega (arith, c.tally_row.auto.t),
   put_down _ (omega arith) (omega arith) (omega arith) inv (c.tally_row.ensures _ (omega arith)) (λ p q i. tallied_same _ _ _ _ p q (inv.old p q (omega arith) (omega arith))),
 )
-
-pub shape_of-t : goal.shape_of-t
-shape_of-t c = c.loop-p.invariant.2
-
-pub returns : goal.returns
-returns c = put_as c.loop-p.invariant.3 refl (omega arith) refl refl (λ p q i. refl)

@@ -1,12 +1,9 @@
 -- `blocks::tally::tally_rows` meets its contract. Assumes nothing.
 use mathlib.Core.Path.{◌≡◌}
-use Prim.Native.Nat.{◌-◌, ◌≤◌}
+use Prim.Native.Nat.{◌≤◌}
 use lib.ListN.{length}
 use Rattle.automata.specs.inner.Cells.{Put, tallied}
 use Rattle.blocks.proofs.tally.tally_rows.Given as goal
 
 abbrev pub invariant-loop-p : goal.invariant-loop-p
 invariant-loop-p l = (l.lo ≤ l.p) × (l.p ≤ l.hi) × (length l.t ≡ length l.initial.t) × Put l.initial.t l.t l.lo l.p l.lo l.hi (tallied l.initial.t l.hit l.miss)
-
-abbrev pub decreases-loop-p : goal.decreases-loop-p
-decreases-loop-p l = l.hi - l.p

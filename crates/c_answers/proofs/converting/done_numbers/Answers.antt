@@ -6,8 +6,8 @@ use Rattle.c_answers.specs.Numbers.{done_numbers_of}
 use Rattle.c_answers.proofs.Given.{by_case, by_numbers, done_of}
 use Rattle.c_answers.proofs.converting.done_numbers.Goals as goal
 
-pub returns-in-Converted : goal.returns-in-Converted
-returns-in-Converted c = by_case done_of c.in-Converted.is refl
+pub returns-in-Ok : goal.returns-in-Ok
+returns-in-Ok c = by_case done_of c.in-Ok.is refl
 
-pub returns-in-Refused : goal.returns-in-Refused
-returns-in-Refused c = by_case done_of c.in-Refused.is (by_numbers (λ (n p : ℕ). done_numbers_of (rows.refused n p)) refl c.number.ensures c.place.ensures)
+pub returns-in-Err : goal.returns-in-Err
+returns-in-Err c = by_case done_of c.in-Err.is (by_numbers (λ (n p : ℕ). done_numbers_of (rows.refused n p)) refl c.number.ensures c.place.ensures)

@@ -6,8 +6,8 @@ use Rattle.c_answers.specs.Numbers.{judged_numbers_of}
 use Rattle.c_answers.proofs.Given.{by_case, by_numbers, judged_of}
 use Rattle.c_answers.proofs.judging.judged_numbers.Goals as goal
 
-pub returns-in-Judged : goal.returns-in-Judged
-returns-in-Judged c = by_case judged_of c.in-Judged.is refl
+pub returns-in-Ok : goal.returns-in-Ok
+returns-in-Ok c = by_case judged_of c.in-Ok.is refl
 
-pub returns-in-Refused : goal.returns-in-Refused
-returns-in-Refused c = by_case judged_of c.in-Refused.is (by_numbers (λ (n p : ℕ). judged_numbers_of (judge.refused n p)) refl c.number.ensures c.place.ensures)
+pub returns-in-Err : goal.returns-in-Err
+returns-in-Err c = by_case judged_of c.in-Err.is (by_numbers (λ (n p : ℕ). judged_numbers_of (judge.refused n p)) refl c.number.ensures c.place.ensures)

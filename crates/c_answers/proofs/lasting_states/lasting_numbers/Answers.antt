@@ -6,8 +6,8 @@ use Rattle.c_answers.specs.Numbers.{lasting_numbers_of}
 use Rattle.c_answers.proofs.Given.{by_case, by_numbers, lasting_of}
 use Rattle.c_answers.proofs.lasting_states.lasting_numbers.Goals as goal
 
-pub returns-in-Lasting : goal.returns-in-Lasting
-returns-in-Lasting c = by_case lasting_of c.in-Lasting.is refl
+pub returns-in-Ok : goal.returns-in-Ok
+returns-in-Ok c = by_case lasting_of c.in-Ok.is refl
 
-pub returns-in-Refused : goal.returns-in-Refused
-returns-in-Refused c = by_case lasting_of c.in-Refused.is (by_numbers (λ (n p : ℕ). lasting_numbers_of (lasting.refused n p)) refl c.number.ensures c.place.ensures)
+pub returns-in-Err : goal.returns-in-Err
+returns-in-Err c = by_case lasting_of c.in-Err.is (by_numbers (λ (n p : ℕ). lasting_numbers_of (lasting.refused n p)) refl c.number.ensures c.place.ensures)

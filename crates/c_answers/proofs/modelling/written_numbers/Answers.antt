@@ -6,8 +6,8 @@ use Rattle.c_answers.specs.Numbers.{written_numbers_of}
 use Rattle.c_answers.proofs.Given.{by_case, by_numbers, written_of}
 use Rattle.c_answers.proofs.modelling.written_numbers.Goals as goal
 
-pub returns-in-Written : goal.returns-in-Written
-returns-in-Written c = by_case written_of c.in-Written.is refl
+pub returns-in-Ok : goal.returns-in-Ok
+returns-in-Ok c = by_case written_of c.in-Ok.is refl
 
-pub returns-in-Refused : goal.returns-in-Refused
-returns-in-Refused c = by_case written_of c.in-Refused.is (by_numbers (λ (n p : ℕ). written_numbers_of (formula_answer.refused n p)) refl c.number.ensures c.place.ensures)
+pub returns-in-Err : goal.returns-in-Err
+returns-in-Err c = by_case written_of c.in-Err.is (by_numbers (λ (n p : ℕ). written_numbers_of (formula_answer.refused n p)) refl c.number.ensures c.place.ensures)

@@ -6,8 +6,8 @@ use Rattle.c_answers.specs.Numbers.{rule_numbers_of}
 use Rattle.c_answers.proofs.Given.{by_case, by_numbers, rule_of}
 use Rattle.c_answers.proofs.reading.rule_numbers.Goals as goal
 
-pub returns-in-Accepted : goal.returns-in-Accepted
-returns-in-Accepted c = by_case rule_of c.in-Accepted.is refl
+pub returns-in-Ok : goal.returns-in-Ok
+returns-in-Ok c = by_case rule_of c.in-Ok.is refl
 
-pub returns-in-Refused : goal.returns-in-Refused
-returns-in-Refused c = by_case rule_of c.in-Refused.is (by_numbers (λ (n p : ℕ). rule_numbers_of (rules.refused n p)) refl c.number.ensures c.place.ensures)
+pub returns-in-Err : goal.returns-in-Err
+returns-in-Err c = by_case rule_of c.in-Err.is (by_numbers (λ (n p : ℕ). rule_numbers_of (rules.refused n p)) refl c.number.ensures c.place.ensures)

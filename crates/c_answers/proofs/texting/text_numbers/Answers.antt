@@ -6,8 +6,8 @@ use Rattle.c_answers.specs.Numbers.{text_numbers_of}
 use Rattle.c_answers.proofs.Given.{by_case, by_numbers, texts_of}
 use Rattle.c_answers.proofs.texting.text_numbers.Goals as goal
 
-pub returns-in-Given : goal.returns-in-Given
-returns-in-Given c = by_case texts_of c.in-Given.is refl
+pub returns-in-Ok : goal.returns-in-Ok
+returns-in-Ok c = by_case texts_of c.in-Ok.is refl
 
-pub returns-in-Refused : goal.returns-in-Refused
-returns-in-Refused c = by_case texts_of c.in-Refused.is (by_numbers (λ (n p : ℕ). text_numbers_of (texts.refused n p)) refl c.number.ensures c.place.ensures)
+pub returns-in-Err : goal.returns-in-Err
+returns-in-Err c = by_case texts_of c.in-Err.is (by_numbers (λ (n p : ℕ). text_numbers_of (texts.refused n p)) refl c.number.ensures c.place.ensures)

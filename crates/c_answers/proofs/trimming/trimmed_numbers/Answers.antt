@@ -6,8 +6,8 @@ use Rattle.c_answers.specs.Numbers.{trimmed_numbers_of}
 use Rattle.c_answers.proofs.Given.{by_case, by_numbers, trimmed_of}
 use Rattle.c_answers.proofs.trimming.trimmed_numbers.Goals as goal
 
-pub returns-in-Trimmed : goal.returns-in-Trimmed
-returns-in-Trimmed c = by_case trimmed_of c.in-Trimmed.is refl
+pub returns-in-Ok : goal.returns-in-Ok
+returns-in-Ok c = by_case trimmed_of c.in-Ok.is refl
 
-pub returns-in-Refused : goal.returns-in-Refused
-returns-in-Refused c = by_case trimmed_of c.in-Refused.is (by_numbers (λ (n p : ℕ). trimmed_numbers_of (trims.refused n p)) refl c.number.ensures c.place.ensures)
+pub returns-in-Err : goal.returns-in-Err
+returns-in-Err c = by_case trimmed_of c.in-Err.is (by_numbers (λ (n p : ℕ). trimmed_numbers_of (trims.refused n p)) refl c.number.ensures c.place.ensures)

@@ -4,4 +4,4 @@ use Rattle.c_answers.specs.Numbers.{model_numbers_of}
 use Rattle.exports.proofs.reading.gc_read_model.Goals as goal
 
 pub returns : goal.returns
-returns c = c.model_numbers.ensures ∙ ap model_numbers_of c.read_model-read.ensures.answered
+returns c = c.model_numbers.ensures ∙ ap model_numbers_of c.read_model.ensures.answered

@@ -1,7 +1,7 @@
 -- `records::put_record` writes the kind, the letter, the flag and the successors. Assumes nothing.
 use native.Mathlib.Omega.{arith}
 use mathlib.Core.Path.{◌∙◌}
-use Rattle.formula_models.proofs.Putting.{record_put}
+use Rattle.formula_models.proofs.Putting.{record_put, byte_num}
 use Rattle.formula_models.proofs.records.put_record.Goals as goal
 
 pub put_byte-b-requires : goal.put_byte-b-requires
@@ -39,4 +39,4 @@ shape_of-out c = c.put_set.ensures.size ∙ c.put_byte-c.ensures.size ∙ c.put_
 
 pub returns : goal.returns
 returns c = let p = c.requires in
-    record_put c.args.set c.args.initial (omega arith) c.put_byte-a.ensures c.put_byte-b.ensures c.flag_of.ensures c.put_byte-c.ensures c.put_set.ensures
+    record_put c.args.set c.args.initial (omega arith) c.put_byte-a.ensures c.put_byte-b.ensures (c.from.ensures ∙ byte_num _) c.put_byte-c.ensures c.put_set.ensures

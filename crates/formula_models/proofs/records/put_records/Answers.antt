@@ -9,24 +9,24 @@ use Rattle.formula_models.proofs.records.put_records.Goals as goal
 pub loop-x-init : goal.loop-x-init
 loop-x-init c = let i = bit c.args.initial in
     let w : ℕ → ℕ = λ y. get_or c.args.successors.now y 0 in
-    (omega arith, records_none i w _)
+    records_none i w _
 
 pub put_record-end-requires : goal.put_record-end-requires
 put_record-end-requires c = let i = bit c.args.initial in
     let w : ℕ → ℕ = λ y. get_or c.args.successors.now y 0 in
     let p = c.requires in
-    records_room i w c.loop-x.invariant.1 p.0 (omega arith)
+    records_room i w c.loop-x.invariant p.0 (omega arith)
 
 pub loop-x-preserved : goal.loop-x-preserved
 loop-x-preserved c = let i = bit c.args.initial in
     let w : ℕ → ℕ = λ y. get_or c.args.successors.now y 0 in
     let p = c.requires in
-    (omega arith, records_turn i w c.loop-x.invariant.1 c.has.ensures c.put_record-end.ensures)
+    records_turn i w c.loop-x.invariant c.has.ensures c.put_record-end.ensures
 
 pub shape_of-out : goal.shape_of-out
-shape_of-out c = c.loop-x.invariant.1.size
+shape_of-out c = c.loop-x.invariant.size
 
 pub returns : goal.returns
 returns c = let i = bit c.args.initial in
     let w : ℕ → ℕ = λ y. get_or c.args.successors.now y 0 in
-    records_all i w c.loop-x.invariant.1 (omega arith)
+    records_all i w c.loop-x.invariant (omega arith)

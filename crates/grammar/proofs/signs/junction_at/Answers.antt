@@ -7,11 +7,11 @@ use Rattle.grammar.proofs.Standing.{absent}
 use Rattle.grammar.proofs.signs.junction_at.Goals as goal
 
 pub returns-then-stands : goal.returns-then-stands
-returns-then-stands c = joins And (c.stands.ensures.yes_holds c.if-stands.true) refl
+returns-then-stands c = joins And refl (c.stands.ensures.yes_holds c.if-stands.true)
 
 pub returns-then-stands-2 : goal.returns-then-stands-2
-returns-then-stands-2 c = joins Or (c.stands-2.ensures.yes_holds c.if-stands-2.true) refl
+returns-then-stands-2 c = joins Or refl (c.stands-2.ensures.yes_holds c.if-stands-2.true)
 
 pub returns : goal.returns
 unfolding rows
-returns c = no_junction (absent _ junction refl _ (c.stands.ensures.no_fails c.if-stands.false, (c.stands-2.ensures.no_fails c.if-stands-2.false, tt))) refl
+returns c = no_junction refl (absent _ junction refl _ (c.stands.ensures.no_fails c.if-stands.false, (c.stands-2.ensures.no_fails c.if-stands-2.false, tt)))

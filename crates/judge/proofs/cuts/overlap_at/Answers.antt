@@ -1,21 +1,16 @@
--- `cuts::overlap_at` meets its contract: where no answer came early, no cut that was tried does. Assumes nothing.
-use native.Mathlib.Omega.{arith}
-use Rattle.bits.proofs.Sayings.{say_yes, say_no, on, off}
-use Rattle.judge.proofs.Tries.{tried_none, tried_one}
-use Rattle.judge.proofs.cuts.overlap_at.Goals.{else-accepted-via-then-accepted+else-accepted-2, else-accepted-via-else-accepted}
+-- `cuts::overlap_at` meets its contract: some letter of the part passes. Assumes nothing.
+use mathlib.Core.Bool.{◌&&◌}
+use borrow.Author.Rules.{rules}
+use borrow.Author.Tests.{tests}
+use Rattle.bits.proofs.Sayings.{says_map}
+use Rattle.judge.specs.Parts.{yes}
+use Rattle.judge.proofs.Tries.{says_some, both, first, second}
+use Prim.Native.Nat.{◌+◌}
 use Rattle.judge.proofs.cuts.overlap_at.Goals as goal
 
-pub loop-shared-init : goal.loop-shared-init
-loop-shared-init c = tried_none
-
-pub returns-then-accepted-2 : goal.returns-then-accepted-2
-returns-then-accepted-2 c = say_yes (record { shared = c.loop-shared.shared; from = c.loop-shared.invariant.from; to = omega arith; first = on c.accepted.ensures c.if-accepted.true; second = on c.accepted-then-accepted.ensures c.if-accepted-2.true })
-
-pub loop-shared-preserved : goal.loop-shared-preserved
-loop-shared-preserved c = tried_one c.loop-shared.invariant (λ f. elim c.else-accepted.branch [
-  | else-accepted-via-then-accepted+else-accepted-2 w ↦ off w.accepted-then-accepted.ensures w.if-accepted-2.false f.second
-  | else-accepted-via-else-accepted w ↦ off c.accepted.ensures w.if-accepted.false f.first
-])
-
 pub returns : goal.returns
-returns c = say_no (λ t. c.loop-shared.invariant.none t.shared t.from (omega (arith, t.to)) (record { first = t.first; second = t.second }))
+returns c =
+    says_map
+    (λ t. record { shared = t.cut; from = t.from; to = t.to; first = first _ _ t.passes; second = second _ _ t.passes })
+    (λ t. record { cut = t.shared; from = t.from; to = t.to; passes = both _ _ t.first t.second })
+    (says_some (λ x. yes c.args.a.now c.args.i (x + 1) && yes c.args.b.now x c.args.e) _ _ _ _ c.any.ensures.ran (λ x b q k. search (rules, tests)))

@@ -1,25 +1,17 @@
--- `cuts::star_at` meets its contract: where no answer came early, no cut that was tried does. Assumes nothing.
-use mathlib.Core.Logic.{⊎_elim, inl, inr}
+-- `cuts::star_at` meets its contract: the part is empty, or some cut of it passes. Assumes nothing.
 use native.Mathlib.Omega.{arith}
-use Rattle.bits.proofs.Sayings.{say_yes, say_no, on, off}
-use Rattle.judge.proofs.Tries.{tried_none, tried_one}
-use Rattle.judge.proofs.cuts.star_at.Goals.{else-accepted-via-then-accepted+else-accepted-2, else-accepted-via-else-accepted}
+use mathlib.Core.Bool.{◌&&◌}
+use borrow.Author.Rules.{rules}
+use borrow.Author.Tests.{tests}
+use Rattle.bits.proofs.Sayings.{says_map}
+use Rattle.judge.specs.Parts.{yes}
+use Rattle.judge.proofs.Tries.{says_some, both, first, second}
+use mathlib.Core.Logic.{inr, ⊎_elim}
 use Rattle.judge.proofs.cuts.star_at.Goals as goal
 
-pub returns-then-i-e : goal.returns-then-i-e
-returns-then-i-e c = say_yes (inl c.if-i-e.true)
-
-pub loop-next-init : goal.loop-next-init
-loop-next-init c = tried_none
-
-pub returns-then-accepted-2 : goal.returns-then-accepted-2
-returns-then-accepted-2 c = say_yes (inr (record { cut = c.loop-next.next; from = omega (arith, c.loop-next.invariant.from); to = omega arith; first = on c.accepted.ensures c.if-accepted.true; second = on c.accepted-then-accepted.ensures c.if-accepted-2.true }))
-
-pub loop-next-preserved : goal.loop-next-preserved
-loop-next-preserved c = tried_one c.loop-next.invariant (λ f. elim c.else-accepted.branch [
-  | else-accepted-via-then-accepted+else-accepted-2 w ↦ off w.accepted-then-accepted.ensures w.if-accepted-2.false f.second
-  | else-accepted-via-else-accepted w ↦ off c.accepted.ensures w.if-accepted.false f.first
-])
-
-pub returns : goal.returns
-returns c = say_no (λ s. ⊎_elim (λ q. c.if-i-e.false q) (λ t. c.loop-next.invariant.none t.cut (omega (arith, t.from)) (omega (arith, t.to)) (record { first = t.first; second = t.second })) s)
+pub returns-else-i-e : goal.returns-else-i-e
+returns-else-i-e c =
+    says_map
+    (λ t. inr (record { cut = t.cut; from = omega (arith, t.from); to = omega (arith, t.to); first = first _ _ t.passes; second = second _ _ t.passes }))
+    (λ s. ⊎_elim (λ q. absurd (c.if-i-e.false q)) (λ t. record { cut = t.cut; from = omega (arith, t.from); to = omega (arith, t.to); passes = both _ _ t.first t.second }) s)
+    (says_some (λ x. yes c.args.a.now c.args.i x && yes c.args.rest.now x c.args.e) _ _ _ _ c.any.ensures.ran (λ x b q k. search (rules, tests)))

@@ -1,10 +1,6 @@
 -- `letter_rows::states::write_block` meets its contract. The invariant: the first k words are written. Assumes nothing.
-use Prim.Native.Nat.{◌-◌, ◌≤◌}
 use Rattle.letter_rows.specs.inner.Blocks.{WrittenTo}
 use Rattle.letter_rows.proofs.states.write_block.Given as goal
 
 abbrev pub invariant-loop-k : goal.invariant-loop-k
-invariant-loop-k l = (l.k ≤ 64) × WrittenTo l.initial.words l.words l.block l.base l.step l.k
-
-abbrev pub decreases-loop-k : goal.decreases-loop-k
-decreases-loop-k l = 64 - l.k
+invariant-loop-k l = WrittenTo l.initial.words l.words l.block l.base l.step l.k

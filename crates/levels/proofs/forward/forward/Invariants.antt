@@ -3,16 +3,15 @@
 use mathlib.Core.Path.{◌≡◌}
 use Prim.Native.Nat.{◌+◌, ◌-◌, min}
 use lib.ListN.{length}
-use Rattle.automata.specs.Table.{table_of}
-use Rattle.models.specs.Stored.{model_with}
 use Rattle.models.specs.Model.{model_states}
 use Rattle.levels.specs.Lent.{pair_count}
+use Rattle.levels.specs.Through.{its_model, its_table}
 use Rattle.levels.proofs.Flowing.{Flow}
 use Rattle.levels.proofs.forward.forward.Given as goal
 
 abbrev pub invariant-loop-new : goal.invariant-loop-new
 invariant-loop-new l = (length l.after ≡ model_states)
-    × Flow (model_with l.sizes.states l.letters l.sizes.initial l.successors) (table_of l.table l.sizes.weight l.sizes.finals) l.sizes.states l.initial.marks l.initial.queue l.marks l.queue l.front l.wave.level l.wave.fresh l.wave.count l.new
+    × Flow (its_model l.search) (its_table l.search) l.search.sizes.states l.initial.marks l.initial.queue l.marks l.queue l.front l.wave.level l.wave.fresh l.wave.count l.new
 
 abbrev pub decreases-loop-new : goal.decreases-loop-new
 decreases-loop-new l = min l.new 1 + (pair_count - l.wave.count)

@@ -1,27 +1,20 @@
--- `search::forward::round` meets its contract. A sweep from the front.
+-- `forward::round` meets its contract. A sweep from the front.
 -- Assumes nothing.
 use native.Mathlib.Omega.{arith}
+use Rattle.bits.proofs.Members.{members_same}
 use Rattle.levels.proofs.Queueing.{pushed_same}
-use Rattle.levels.proofs.Rounding.{members_below, round_lands, lands_round}
+use Rattle.levels.proofs.Rounding.{round_lands, lands_round}
 use Rattle.levels.proofs.forward.round.Goals as goal
 
-pub union-requires : goal.union-requires
-union-requires c = λ k t. omega (arith, c.requires.7.inside k t, c.requires.1)
+pub invariant_of-from : goal.invariant_of-from
+invariant_of-from c = let n = c.args.search.now in
+    record { sending = λ s t. let z = c.requires.5.inside s t in (omega (arith, z, n.long), omega (arith, z, c.requires.0, n.lent.model.few)) }
 
-pub below-requires : goal.below-requires
-below-requires c = c.requires.0.model.few
+pub union-requires : goal.union-requires
+union-requires c = λ k t. omega (arith, c.requires.5.inside k t, c.args.search.now.long)
 
 pub sweep-requires : goal.sweep-requires
-sweep-requires c = let p = c.requires in (
-  p.0.model,
-  p.0.by_letter.long,
-  λ s t. let z = p.7.inside s t in (omega (arith, p.1), omega (arith, p.2, p.0.model.few)),
-  p.3,
-  p.4,
-  λ t h. ((members_below c.args.sizes.states c.union.ensures c.below.ensures).holds t h).1,
-  p.5,
-  p.6,
-)
+sweep-requires c = let p = c.requires in (λ t h. (c.states_of-live.ensures.holds t h).1, p.1, p.2, p.3, p.4)
 
 pub shape_of-after : goal.shape_of-after
 shape_of-after c = c.sweep.ensures.1
@@ -33,15 +26,17 @@ pub shape_of-queue : goal.shape_of-queue
 shape_of-queue c = c.sweep.ensures.2.beyond.size
 
 pub returns : goal.returns
-returns c = let a = c.args in
-    let p = c.requires.0 in
-    let f = c.requires.7 in
-    let l = members_below a.sizes.states c.union.ensures c.below.ensures in
+returns c = let s = c.args.search.now in
+    let w = c.args.wave in
+    let p = s.lent in
+    let f = c.requires.5 in
+    let u = c.union.ensures in
+    let l = members_same c.states_of-live.ensures (λ t h. (u.holds t h.0, h.1)) (λ t h. (u.has t h.0, h.1)) in
     let e = c.sweep.ensures in (
       e.0,
       e.1,
       pushed_same _ e.2
-          (λ i o. round_lands a.table.now a.letters.now a.rows.now a.sizes.weight a.sizes.states p.labels p.model p.by_letter a.successors.now a.front.now _ a.wave.fresh _ a.wave.level f l i o)
-          (λ i o. lands_round a.table.now a.letters.now a.rows.now a.sizes.weight a.sizes.states p.labels p.model p.by_letter a.successors.now a.front.now _ a.wave.fresh _ a.wave.level f l i o),
+          (λ i o. round_lands s.table.now s.letters.now s.rows.now s.sizes.weight s.sizes.states p.labels p.model p.by_letter s.successors.now c.args.front.now _ w.fresh _ w.level f l i o)
+          (λ i o. lands_round s.table.now s.letters.now s.rows.now s.sizes.weight s.sizes.states p.labels p.model p.by_letter s.successors.now c.args.front.now _ w.fresh _ w.level f l i o),
       e.3,
     )

@@ -4,16 +4,13 @@ use Prim.Native.Nat.{ℕ, suc}
 use mathlib.Core.Path.{◌≡◌}
 use lib.Dec.{T}
 use lib.ListN.{length}
-use Rattle.bits.specs.Word.{bit, many}
+use Rattle.bits.specs.Word.{bit}
 use Rattle.bits.specs.Sets.{Over}
 use Rattle.bits.proofs.Resting.{Done, Rest}
 use Rattle.levels.specs.inner.Waves.{Pushed, Fronts, Lands}
 use Rattle.levels.proofs.sweep.sweep.Given as goal
 
-abbrev pub invariant-loop-rest : goal.invariant-loop-rest
-invariant-loop-rest l = Rest l.live l.rest × (length l.after ≡ length l.initial.after)
-    × Pushed l.level l.initial.marks l.marks l.initial.queue l.queue (λ i. Over (Done l.live l.rest) (λ t. Lands l.rows l.letters l.successors l.front l.fresh t i)) l.initial.total l.total
-    × Fronts l.marks l.states (suc l.level) l.next l.after × ((k : ℕ) → T (bit l.next k) → Done l.live l.rest k)
-
-abbrev pub decreases-loop-rest : goal.decreases-loop-rest
-decreases-loop-rest l = many 64 (bit l.rest)
+abbrev pub invariant-loop-t : goal.invariant-loop-t
+invariant-loop-t l = Rest l.live l.t-iterator.rest × (length l.after ≡ length l.initial.after)
+    × Pushed l.level l.initial.marks l.marks l.initial.queue l.queue (λ i. Over (Done l.live l.t-iterator.rest) (λ t. Lands l.search.rows.now l.search.letters.now l.from.successors.now l.from.front.now l.from.fresh t i)) l.initial.total l.total
+    × Fronts l.marks l.search.sizes.states (suc l.level) l.next l.after × ((k : ℕ) → T (bit l.next k) → Done l.live l.t-iterator.rest k)

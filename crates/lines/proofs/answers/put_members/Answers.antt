@@ -4,13 +4,13 @@ use Rattle.lines.proofs.Uses.{members_none, member_room, member_turn, members_wh
 use Rattle.lines.proofs.answers.put_members.Goals as goal
 
 pub loop-number-init : goal.loop-number-init
-loop-number-init c = (omega arith, members_none c.args.uses _ _)
+loop-number-init c = members_none c.args.uses _ _
 
 pub put_member-end-requires : goal.put_member-end-requires
-put_member-end-requires c = (omega arith, member_room c.args.uses c.args.at c.args.out.now c.loop-number.number c.requires c.loop-number.invariant.1 (omega arith))
+put_member-end-requires c = (omega arith, member_room c.args.uses c.args.at c.args.out.now c.loop-number.number c.requires c.loop-number.invariant (omega arith))
 
 pub loop-number-preserved : goal.loop-number-preserved
-loop-number-preserved c = (omega arith, member_turn c.args.uses c.args.at c.args.out.now c.loop-number.number c.requires c.loop-number.invariant.1 c.put_member-end.ensures)
+loop-number-preserved c = member_turn c.args.uses c.args.at c.args.out.now c.loop-number.number c.requires c.loop-number.invariant c.put_member-end.ensures
 
 pub returns : goal.returns
-returns c = members_whole c.args.uses c.args.at c.args.out.now c.loop-number.number c.requires c.loop-number.invariant.1 (omega arith)
+returns c = members_whole c.args.uses c.args.at c.args.out.now c.loop-number.number c.requires c.loop-number.invariant (omega arith)

@@ -1,15 +1,14 @@
 -- `put_run` writes a colon and the run. Assumes nothing.
 use native.Mathlib.Omega.{arith}
-use lib.ListN.{take}
 use Rattle.lines.specs.Text.{colon, states_text}
 use Rattle.writing.proofs.Wrotes.{wrote_more, first_room, then_room}
 use Rattle.lines.proofs.answers.put_run.Goals as goal
 
 pub put_byte-past-requires : goal.put_byte-past-requires
-put_byte-past-requires c = omega (arith, first_room colon (states_text (take c.args.long c.args.run.now)) c.args.out.now c.args.at c.requires.1)
+put_byte-past-requires c = omega (arith, first_room colon (states_text c.args.run.now) c.args.out.now c.args.at c.requires)
 
 pub put_states-requires : goal.put_states-requires
-put_states-requires c = (c.requires.0, then_room colon (states_text (take c.args.long c.args.run.now)) c.args.out.now c.args.at c.requires.1 c.put_byte-past.ensures)
+put_states-requires c = then_room colon (states_text c.args.run.now) c.args.out.now c.args.at c.requires c.put_byte-past.ensures
 
 pub returns : goal.returns
-returns c = wrote_more (omega (arith, c.requires.1)) c.put_byte-past.ensures c.put_states.ensures
+returns c = wrote_more (omega (arith, c.requires)) c.put_byte-past.ensures c.put_states.ensures

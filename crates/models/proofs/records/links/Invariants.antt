@@ -1,11 +1,8 @@
 -- `models::links` meets its contract. Assumes nothing.
-use Prim.Native.Nat.{◌≤◌, ◌-◌}
+use Prim.Native.Nat.{◌-◌}
 use mathlib.Core.Path.{◌≡◌}
 use Rattle.models.specs.Reading.{linked}
 use Rattle.models.proofs.records.links.Given as goal
 
 abbrev pub invariant-loop-k : goal.invariant-loop-k
-invariant-loop-k l = (l.k ≤ l.n) × (linked (l.n - l.k) l.model l.n l.k ≡ linked l.n l.model l.n 0)
-
-abbrev pub decreases-loop-k : goal.decreases-loop-k
-decreases-loop-k l = l.n - l.k
+invariant-loop-k l = linked (l.n - l.k) l.model l.n l.k ≡ linked l.n l.model l.n 0

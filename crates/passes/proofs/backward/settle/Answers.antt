@@ -9,7 +9,7 @@ use Rattle.passes.specs.inner.Uses.{useful_at}
 use Rattle.passes.proofs.backward.settle.Goals as goal
 
 pub overflow_cast-place : goal.overflow_cast-place
-overflow_cast-place c = record { fits = omega (arith, (c.shared_slice_known-5-1.given c.args.at).fits) }
+overflow_cast-place c = record { fits = omega (arith, (c.type_inv.marks c.args.at).fits) }
 
 pub returns : goal.returns
 returns c = let a = c.args in

@@ -1,59 +1,39 @@
--- `search::inner::passes` meets its contract. The three passes, one after the other.
+-- `inner::passes` meets its contract. The three passes, one after the other.
 -- Assumes nothing.
+use Prim.Native.Nat.{◌≤◌}
 use native.Mathlib.Omega.{arith}
-use Rattle.levels.proofs.SearchInput.{input_of}
-use Rattle.passes.proofs.Finding.{answers_nothing, level_small, pickable, answers_found}
+use lib.ListN.{length}
+use Rattle.levels.proofs.SearchInput.{input_in}
+use Rattle.passes.proofs.Finding.{answers_nothing, level_small, pickable, answers_found, listed_marked, listed_queued}
 use Rattle.passes.proofs.inner.passes.Goals as goal
 
-pub forward-end-requires : goal.forward-end-requires
-forward-end-requires c = let p = c.requires in (p.0, p.1, p.2, p.5)
+pub returns : goal.returns
+returns c = let f = c.forward-end in
+    let e = rw c.if-end.false at f.ensures.2 in
+    (answers_nothing (input_in c.args.search.now) f.result.level f.result.count _ _ e, f.ensures.0, f.ensures.1)
+
+pub slice_bounds-backward-end : goal.slice_bounds-backward-end
+slice_bounds-backward-end c = let f = c.forward-end in
+    let e = rw c.if-end.true at f.ensures.2 in
+    omega (arith, e.marked.few, c.requires.0.queue_long, f.ensures.1.size)
 
 pub backward-requires : goal.backward-requires
 backward-requires c = let p = c.requires in
-    let f = c.forward-end.ensures in
-    (p.0, p.1, record { marks_long = omega (arith, p.2.marks_long, f.0.size); queue_long = omega (arith, p.2.queue_long, f.1.size) }, p.3, p.6, f.2.marked, f.3)
+    let f = c.forward-end in
+    let e = rw c.if-end.true at f.ensures.2 in
+    let h : f.result.count ≤ length f.new.queue = omega (arith, e.marked.few, p.0.queue_long, f.ensures.1.size) in
+    (omega (arith, p.0.marks_long, f.ensures.0.size), p.1, p.4, listed_marked _ _ _ _ h e.marked, listed_queued _ _ _ _ h f.ensures.3)
 
 pub pick-requires : goal.pick-requires
-pick-requires c = let a = c.args in
-    let p = c.requires in
+pick-requires c = let p = c.requires in
     let f = c.forward-end in
-    let G = input_of a.sizes a.table.now a.letters.now a.successors.now p.0.labels p.0.model in
-    (p.0, p.1, omega (arith, p.2.marks_long, f.ensures.0.size), omega (arith, p.3, c.backward.ensures.0), p.4, level_small G f.result.level f.result.count _ f.result.found c.if-end.true f.ensures.2, pickable G f.result.level f.result.count _ f.result.found c.if-end.true f.ensures.2 _ c.backward.ensures.1)
-
-pub overflow_cast-long : goal.overflow_cast-long
-overflow_cast-long c = let a = c.args in
-    let p = c.requires in
-    let f = c.forward-end in
-    let G = input_of a.sizes a.table.now a.letters.now a.successors.now p.0.labels p.0.model in
-    record { fits = omega (arith, level_small G f.result.level f.result.count _ f.result.found c.if-end.true f.ensures.2) }
-
-pub shape_of-marks-then-end : goal.shape_of-marks-then-end
-shape_of-marks-then-end c = c.forward-end.ensures.0.size
-
-pub shape_of-queue-then-end : goal.shape_of-queue-then-end
-shape_of-queue-then-end c = c.forward-end.ensures.1.size
-
-pub shape_of-useful-then-end : goal.shape_of-useful-then-end
-shape_of-useful-then-end c = c.backward.ensures.0
-
-pub shape_of-run-then-end : goal.shape_of-run-then-end
-shape_of-run-then-end c = c.pick.ensures.0.size
+    let e = rw c.if-end.true at f.ensures.2 in
+    let G = input_in c.args.search.now in
+    (omega (arith, p.0.marks_long, f.ensures.0.size), omega (arith, p.1, c.backward.ensures.0), p.2, level_small G f.result.level f.result.count _ e, pickable G f.result.level f.result.count _ e _ c.backward.ensures.1)
 
 pub returns-then-end : goal.returns-then-end
-returns-then-end c = let a = c.args in
-    let p = c.requires in
-    let f = c.forward-end in
-    let G = input_of a.sizes a.table.now a.letters.now a.successors.now p.0.labels p.0.model in
-    (answers_found G f.result.level f.result.count _ f.result.found c.if-end.true f.ensures.2 _ _ c.pick.ensures.1 c.pick.ensures.0 (omega (arith, c.pick.ensures.0.size, p.4, level_small G f.result.level f.result.count _ f.result.found c.if-end.true f.ensures.2)), f.ensures.0, f.ensures.1)
-
-pub shape_of-marks : goal.shape_of-marks
-shape_of-marks c = c.forward-end.ensures.0.size
-
-pub shape_of-queue : goal.shape_of-queue
-shape_of-queue c = c.forward-end.ensures.1.size
-
-pub returns : goal.returns
-returns c = let a = c.args in
-    let p = c.requires in
-    let f = c.forward-end in
-    (answers_nothing (input_of a.sizes a.table.now a.letters.now a.successors.now p.0.labels p.0.model) f.result.level f.result.count _ _ f.result.found c.if-end.false f.ensures.2, f.ensures.0, f.ensures.1)
+returns-then-end c = let f = c.forward-end in
+    let e = rw c.if-end.true at f.ensures.2 in
+    let G = input_in c.args.search.now in
+    let b = c.pick.ensures.0 in
+    (answers_found G f.result.level f.result.count _ e _ _ c.pick.ensures.1 b (omega (arith, b.size, c.requires.2, level_small G f.result.level f.result.count _ e)), f.ensures.0, f.ensures.1)

@@ -1,6 +1,6 @@
 -- `search::inner::search_table` meets its contract. What is cleared at the end stays so.
 -- Assumes nothing.
-use mathlib.Core.Path.{sym, ◌∙◌}
+use mathlib.Core.Path.{◌∙◌}
 use native.Mathlib.Omega.{arith}
 use Rattle.automata.specs.Table.{table_entries}
 use Rattle.tables.proofs.promise.Beyonds.{beyond_then}
@@ -15,20 +15,13 @@ model_rows-requires c = (c.requires.0, c.requires.1, omega arith, λ i. zeros_at
 pub clear-requires : goal.clear-requires
 clear-requires c = c.requires.3
 
-pub slice_bounds-passes-end : goal.slice_bounds-passes-end
-slice_bounds-passes-end c = sym c.model_rows.ensures.0
+pub invariant_of-search : goal.invariant_of-search
+invariant_of-search c = record { lent = record { labels = c.requires.0; model = c.requires.1; by_letter = c.model_rows.ensures.1 }; long = c.requires.2 }
 
 pub passes-answer-requires : goal.passes-answer-requires
 passes-answer-requires c = let p = c.requires in
-    let e = c.clear.ensures in (
-      record { labels = p.0; model = p.1; by_letter = c.model_rows.ensures.1 },
-      p.2,
-      record { marks_long = omega (arith, p.3, e.beyond.size); queue_long = p.4 },
-      omega arith,
-      p.5,
-      e.zeros,
-      λ i. zeros_at useful_sets i,
-    )
+    let e = c.clear.ensures in
+    (record { marks_long = omega (arith, p.3, e.beyond.size); queue_long = p.4 }, omega arith, p.5, e.zeros, λ i. zeros_at useful_sets i)
 
 pub overflow_mul-used : goal.overflow_mul-used
 overflow_mul-used c = record { fits = omega (arith, c.requires.1.few, c.requires.0.small) }
@@ -46,7 +39,7 @@ pub shape_of-queue : goal.shape_of-queue
 shape_of-queue c = c.clear-3.ensures.beyond.size ∙ c.passes-answer.ensures.2.size
 
 pub shape_of-run : goal.shape_of-run
-shape_of-run c = kept_size c.passes-answer.result _ _ c.passes-answer.ensures.0.run_kept
+shape_of-run c = kept_size c.passes-answer.result.found _ _ c.passes-answer.ensures.0.run_kept
 
 pub returns : goal.returns
 returns c = let e = c.passes-answer.ensures in

@@ -36,7 +36,7 @@ bounds-rule-body t c = let s = c.args.rule.now in
     (good_body s at g q).0
 
 pub overflow_cast-rule : goal.overflow_cast-rule
-overflow_cast-rule t c = omega (arith, c.shared_slice_known-in-Proposition-1.given (c.args.at + 1))
+overflow_cast-rule t c = omega (arith, c.type_inv.rule (c.args.at + 1))
 
 pub with-requires : goal.with-requires
 with-requires t c = let s = c.args.rule.now in

@@ -3,9 +3,9 @@ use mathlib.Core.Path.{◌≡◌, sym, ap, ◌∙◌}
 use native.Mathlib.Omega.{arith}
 use lib.ListN.{get_or}
 use Rattle.definitions.specs.declared.kinds.RuleKind.TheVariants.{Letter, Empty, Two, Again, Counted, Occurs}
-use Rattle.definitions.specs.declared.kinds.Kind.TheVariants.{OfFormula, OfRule, Unknown}
+use Rattle.definitions.specs.declared.kinds.Kind.TheVariants.{OfRule}
 use Rattle.definitions.specs.Kinds.{kind_of}
-use Rattle.rules.proofs.Walks.{rule_here, not_unknown, not_formula, good_letter, good_again, good_first, good_second, has_counts, good_counted, occurs_counts, good_occurs}
+use Rattle.rules.proofs.Walks.{rule_here, is_rule, good_letter, good_again, good_first, good_second, has_counts, good_counted, occurs_counts, good_occurs}
 use Rattle.rules.proofs.Weighing.{w_letter, w_empty, w_again, w_two, w_counted, w_occurs, capped_small}
 use Rattle.rules.proofs.weights.+weight_at.Goals as goal
 
@@ -63,11 +63,10 @@ names_at-f-requires-in-Occurs t c = let s = c.args.rule.now in let at = c.args.a
 pub overflow_add-result-in-Occurs : goal.overflow_add-result-in-Occurs
 overflow_add-result-in-Occurs t c = let s = c.args.rule.now in let at = c.args.at in let g = c.requires in let l = rule_here s at g in let q : kind_of (get_or s at 0) ≡ OfRule Occurs = sym c.kind_of.ensures ∙ c.in-OfRule.is ∙ ap OfRule c.in-Occurs.is in let h = (occurs_counts s at g q).fit.small in let e = c.counts_at-c-in-Occurs.ensures.high in omega arith
 
-pub returns-in-Unknown : goal.returns-in-Unknown
-returns-in-Unknown t c = let s = c.args.rule.now in let at = c.args.at in let g = c.requires in let l = rule_here s at g in let q : kind_of (get_or s at 0) ≡ Unknown = sym c.kind_of.ensures ∙ c.in-Unknown.is in absurd (not_unknown s at g q)
-
-pub returns-in-OfFormula : goal.returns-in-OfFormula
-returns-in-OfFormula t c = let s = c.args.rule.now in let at = c.args.at in let g = c.requires in let l = rule_here s at g in let q : kind_of (get_or s at 0) ≡ OfFormula c.in-OfFormula.field-0 = sym c.kind_of.ensures ∙ c.in-OfFormula.is in absurd (not_formula s at g _ q)
+pub returns-in_default : goal.returns-in_default
+returns-in_default t c =
+    let k = is_rule c.args.rule.now c.args.at c.requires in
+    absurd (c.in_default.not-OfRule k.0 (c.kind_of.ensures ∙ k.1))
 
 pub returns-in-Letter : goal.returns-in-Letter
 returns-in-Letter t c = let s = c.args.rule.now in let at = c.args.at in let g = c.requires in let l = rule_here s at g in let q : kind_of (get_or s at 0) ≡ OfRule Letter = sym c.kind_of.ensures ∙ c.in-OfRule.is ∙ ap OfRule c.in-Letter.is in w_letter s at q c.names_at-f.result c.names_at-f.ensures

@@ -20,4 +20,4 @@ returns-in-49 c = sym (ap kind_of c.in-49.is)
 pub returns-in_default : goal.returns-in_default
 unfolding kind_of
 returns-in_default c = let b = c.args.byte in
-    rw (ne_eqb b 7 (search rules), ne_eqb b 48 (search rules), ne_eqb b 49 (search rules)) (c.of_rules.ensures ∙ ap of_rules_of c.kind_of.ensures)
+    rw (ne_eqb b 7 (search rules), ne_eqb b 48 (search rules), ne_eqb b 49 (search rules)) (c.from.ensures ∙ ap of_rules_of c.kind_of.ensures)

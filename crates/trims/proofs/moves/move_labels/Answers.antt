@@ -6,20 +6,10 @@ use Rattle.trims.proofs.Moving.{moved_rows}
 use Rattle.trims.proofs.moves.move_labels.Goals as goal
 
 pub loop-i-init : goal.loop-i-init
-loop-i-init c = (omega arith, refl, put_none _ _ _ _ _ _ (omega arith))
-
-pub move_row-requires : goal.move_row-requires
-move_row-requires c = (omega arith, omega arith, omega arith, c.requires.3, omega arith)
+loop-i-init c = put_none _ _ _ _ _ _ (omega arith)
 
 pub loop-i-preserved : goal.loop-i-preserved
-loop-i-preserved c = (
-  omega arith,
-  omega (arith, c.move_row.auto.table),
-  put_down _ (omega arith) (omega arith) (omega arith) c.loop-i.invariant.2 c.move_row.ensures (moved_rows _ _ _ _ _ _ c.requires.3 c.loop-i.invariant.2),
-)
-
-pub shape_of-table : goal.shape_of-table
-shape_of-table c = c.loop-i.invariant.1
+loop-i-preserved c = put_down _ (omega arith) (omega arith) (omega arith) c.loop-i.invariant c.move_row.ensures (moved_rows _ _ _ _ _ c.requires.2 c.loop-i.invariant)
 
 pub returns : goal.returns
-returns c = put_as c.loop-i.invariant.2 refl (omega arith) refl refl (λ p q i. refl)
+returns c = put_as c.loop-i.invariant refl (omega arith) refl refl (λ p q i. refl)

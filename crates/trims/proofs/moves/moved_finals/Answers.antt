@@ -1,21 +1,10 @@
--- `moved_finals` builds the set of the new finals, state by state. Assumes nothing.
-use mathlib.Core.Path.{◌≡◌}
+-- `moved_finals` looks up which of the new states were final. Assumes nothing.
+use borrow.Author.Rules.{rules}
 use native.Mathlib.Omega.{arith}
-use Rattle.bits.proofs.Laws.{word_none}
-use Rattle.trims.specs.inner.Moves.{moved_finals_of}
-use Rattle.trims.proofs.Moving.{rising_less}
+use Rattle.bits.proofs.Chosen.{those_word}
+use Rattle.trims.specs.inner.Moves.{moved_final, moved_finals_of}
 use Rattle.trims.proofs.moves.moved_finals.Goals as goal
 
-pub loop-i-init : goal.loop-i-init
-loop-i-init c = (omega arith, word_none _)
-
-pub add_final-set-requires : goal.add_final-set-requires
-add_final-set-requires c = (omega arith, omega arith, rising_less _ (omega arith) c.requires.2)
-
-pub loop-i-preserved : goal.loop-i-preserved
-loop-i-preserved c = (omega arith, c.add_final-set.ensures c.loop-i.invariant.1)
-
 pub returns : goal.returns
-unfolding moved_finals_of
-returns c = let e : c.loop-i.i ≡ c.args.m = omega arith in
-    rw e at c.loop-i.invariant.1
+unfolding moved_finals_of moved_final
+returns c = those_word c.those.ensures c.those.type_inv (omega arith) (λ k b l s. search rules)

@@ -1,17 +1,11 @@
 -- `stands` tries what refusal 24 names, in turn. Assumes nothing.
 use native.Mathlib.Omega.{arith}
-use Rattle.trims.specs.Stands.{no_state, too_many}
+use Rattle.std.proofs.lemmas.Grind.{common_steps}
 use Rattle.trims.proofs.Strays.{judged_bad, final_fault, judged}
 use Rattle.trims.proofs.outside.stands.Goals as goal
 
-pub returns-then-n-eq0 : goal.returns-then-n-eq0
-returns-then-n-eq0 c = judged_bad _ _ _ (no_state (omega arith))
+pub returns-then-not-stray_final : goal.returns-then-not-stray_final
+returns-then-not-stray_final c = judged _ _ _ _ (grind (arith, common_steps)) (grind (arith, common_steps)) (c.stray_final.ensures.no_fails c.if-not-stray_final.true) c.stray_rows.ensures
 
-pub returns-then-n-gt-STATES : goal.returns-then-n-gt-STATES
-returns-then-n-gt-STATES c = judged_bad _ _ _ (too_many (omega arith))
-
-pub returns-then-stray_final : goal.returns-then-stray_final
-returns-then-stray_final c = judged_bad _ _ _ (final_fault _ _ _ (c.stray_final.ensures.yes_holds c.if-stray_final.true))
-
-pub returns : goal.returns
-returns c = judged _ _ _ _ (omega arith) (omega arith) (c.stray_final.ensures.no_fails c.if-stray_final.false) c.stray_rows.ensures
+pub returns-else-not-stray_final : goal.returns-else-not-stray_final
+returns-else-not-stray_final c = rw c.if-not-stray_final.false (judged_bad _ _ _ (final_fault _ _ _ (c.stray_final.ensures.yes_holds c.if-not-stray_final.false)))

@@ -1,13 +1,12 @@
--- `led_to` meets its contract: each of its three ways out is a case of `led_to_of`. Assumes nothing.
+-- `led_to` meets its contract: its letter is the first that matches, or the first match stays. Assumes nothing.
 use native.Mathlib.Omega.{arith}
-use Rattle.walkers.proofs.Answers.{led_matched, led_unmatched, led_first}
+use Rattle.walkers.proofs.Answers.{led_first, led_on}
+use Rattle.walkers.proofs.Walker.led_to.Goals.{then-is_first, else-is_first}
 use Rattle.walkers.proofs.Walker.led_to.Goals as goal
 
-pub returns-then-self : goal.returns-then-self
-returns-then-self c = led_matched c.args.self _ (omega arith) _ c.if-self.true c.at.ensures
-
-pub returns-then-set-self-eq0 : goal.returns-then-set-self-eq0
-returns-then-set-self-eq0 c = led_unmatched c.args.self _ (omega arith) _ c.if-self.false c.if-set-self-eq0.true c.at-then-set-self-eq0.ensures
-
 pub returns : goal.returns
-returns c = led_first c.args.self _ (omega arith) _ c.if-self.false c.if-set-self-eq0.false c.at-2.ensures
+returns c =
+    elim c.if-is_first.branch [
+      | then-is_first h ↦ led_first c.args.self _ (omega arith) _ h.if-is_first.true h.result-is
+      | else-is_first h ↦ led_on c.args.self _ (omega arith) _ h.if-is_first.false h.result-is
+    ]

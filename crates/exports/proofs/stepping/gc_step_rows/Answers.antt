@@ -1,6 +1,0 @@
--- `exports::stepping::gc_step_rows` meets its contract: the library's answer is right, and its numbers are given. Assumes nothing.
-use mathlib.Core.Path.{◌∙◌}
-use Rattle.exports.proofs.stepping.gc_step_rows.Goals as goal
-
-pub returns : goal.returns
-returns c = c.given_back.ensures ∙ c.stepped_rows.ensures
