@@ -3,14 +3,14 @@ ghost use Rattle.std.specs.Prelude.{◌+◌, ◌<◌, ◌≤◌, length};
 ghost use Rattle.automata.specs.Table.{table_states, table_entries};
 ghost use Rattle.automata.specs.inner.Cells.{Put};
 
-use automata::STATES;
+use automata::cells::place;
 
 // Row p has no label in the columns lo to hi.
 fn clear_row(t: &mut [u64], p: usize, lo: usize, hi: usize)
     requires { (table_entries ≤ length t.old) × (p < table_states) × (lo ≤ hi) × (hi ≤ table_states) }
     ensures { Put t.old t.new p (p + 1) lo hi (λ r s. 0) }
 {
-    t[STATES * p + lo..STATES * p + hi].fill(0);
+    t[place(p, lo)..place(p, hi)].fill(0);
 }
 
 // The states lo to hi have no label among them.

@@ -7,7 +7,7 @@ ghost use Rattle.blocks.specs.inner.Building.{Room, Joins};
 
 use crate::pairs::Pairs;
 use automata::STATES;
-use automata::cells::{get, put};
+use automata::cells::{get, place, put};
 use automata::shape::Shape;
 
 // The operands are copied before their pairs take their place. Two operands whose pairs are 64 at most have 34 states at most, if each has two: the copy is
@@ -21,8 +21,8 @@ fn copy_row(copy: &mut [u64], t: &[u64], from: usize, to: usize, n: usize, i: us
     requires { (table_states * (to + n) ≤ length copy.old) × (table_states * (from + n) ≤ length t.now) × (to + n ≤ table_states) × (from + n ≤ table_states) × (i < n) }
     ensures { Put copy.old copy.new (to + i) (to + i + 1) to (to + n) (moved t.now from to) }
 {
-    let at = STATES * (to + i) + to;
-    let old = STATES * (from + i) + from;
+    let at = place(to + i, to);
+    let old = place(from + i, from);
     copy[at..at + n].copy_from_slice(&t[old..old + n]);
 }
 

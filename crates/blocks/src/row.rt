@@ -6,7 +6,7 @@ ghost use Rattle.blocks.specs.inner.Building.{RowOf};
 ghost use Rattle.automata.specs.inner.Shapes.{RowRoom};
 
 use crate::link::then;
-use automata::STATES;
+use automata::cells::place;
 use automata::shape::{Shape, row_shape};
 use definitions::counts::{Counts, after_one};
 
@@ -16,8 +16,8 @@ fn double_row(t: &mut [u64], from: usize, n: usize, i: usize)
     ensures { Put t.old t.new (from + n + i) (from + n + i + 1) (from + n) (from + n + n) (moved t.old from (from + n)) }
 {
     let to = from + n;
-    let old = STATES * (from + i) + from;
-    t.copy_within(old..old + n, STATES * (to + i) + to);
+    let old = place(from + i, from);
+    t.copy_within(old..old + n, place(to + i, to));
 }
 
 // The block of n states at from stands once more behind itself.

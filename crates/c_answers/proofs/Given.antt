@@ -52,8 +52,8 @@ by_numbers g q e e' = rw (sym e) (rw (sym e') q)
 abbrev pub rule_of : RuleAnswer → GcRule
 rule_of a = rule_numbers_of (rules.told a)
 
-abbrev pub model_of : std.Result ModelData model-refusal.Refusal → GcModel
-model_of a = model_numbers_of (models.told a)
+abbrev pub model_of : ModelData → std.Result std.⊤ model-refusal.Refusal → GcModel
+model_of m a = model_numbers_of (models.told (record { answer = a; model = m }))
 
 abbrev pub built_of : TableAnswer → GcBuilt
 built_of a = built_numbers_of (tables.told a)

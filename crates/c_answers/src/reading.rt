@@ -4,7 +4,7 @@ ghost use Rattle.rules.specs.Answer as rules;
 ghost use Rattle.models.specs.Answer as models;
 ghost use Rattle.c_answers.specs.Numbers.{rule_numbers_of, model_numbers_of};
 
-use models::ModelData;
+use models::ModelRead;
 use rules::Known;
 
 // What reading a rule gives back: the weight, and the set of the propositions that it names, bit i for proposition i.
@@ -47,14 +47,14 @@ pub fn rule_numbers(answer: Result<Known, definitions::Refusal>) -> GcRule
 }
 
 // The numbers for each case of the answer: of a model only how many states it has.
-pub fn model_numbers(answer: Result<ModelData, models::Refusal>) -> GcModel
-    ensures { result ≡ model_numbers_of (models.told answer) }
+pub fn model_numbers(read: ModelRead) -> GcModel
+    ensures { result ≡ model_numbers_of (models.told read) }
 {
-    match answer {
-        Ok(model) => GcModel {
+    match read.answer {
+        Ok(()) => GcModel {
             refused: 0,
             place: 0,
-            states: model.states as u64,
+            states: read.model.states as u64,
         },
         Err(x) => GcModel {
             refused: x.number(),

@@ -8,14 +8,13 @@ use c_answers::following::GcMoved;
 use c_answers::stepping::{
     GcStepped, GcWalker, Stepping, given_back, stepped_numbers, walker_numbers, walker_of,
 };
-use row_walkers::layout::Rows;
+use row_walkers::step_rows;
 use walkers::Walker;
-use walkers::layouts::{Labels, Layout};
 
-fn stepped<L: Layout>(walker: GcWalker, layout: &L, letter: u8) -> Stepping
-    ensures { beside result.walker result.says ≡ stepped_numbers_of walker (walkers.step_of (L.table layout.now) (walker_from walker) letter) }
+fn stepped(walker: GcWalker, table: &[u64], letter: u8) -> Stepping
+    ensures { beside result.walker result.says ≡ stepped_numbers_of walker (walkers.step_of table.now (walker_from walker) letter) }
 {
-    stepped_numbers(walker, walkers::step_on(walker_of(walker), layout, letter))
+    stepped_numbers(walker, walker_of(walker).step(table, letter))
 }
 
 // A fresh walker.
@@ -29,21 +28,21 @@ pub fn gc_start(finals: u64) -> GcWalker
 pub fn gc_step(walker: GcWalker, table: &[u64], letter: u8) -> GcStepped
     ensures { result ≡ stepped_numbers_of walker (walkers.step_of table.now (walker_from walker) letter) }
 {
-    given_back(stepped(walker, &Labels(table), letter))
+    given_back(stepped(walker, table, letter))
 }
 
 // Steps a walker over rows by letter, and gives it back.
 pub fn gc_step_rows(walker: GcWalker, rows: &[u64], letter: u8) -> GcStepped
     ensures { result ≡ stepped_numbers_of walker (walkers.step_of (table_by rows.now) (walker_from walker) letter) }
 {
-    given_back(stepped(walker, &Rows(rows), letter))
+    given_back(stepped_numbers(walker, step_rows(walker_of(walker), rows, letter)))
 }
 
 // Steps a walker where it stands.
 pub fn gc_step_lent(walker: &mut GcWalker, table: &[u64], letter: u8) -> GcMoved
     ensures { beside walker.new result ≡ stepped_numbers_of walker.old (walkers.step_of table.now (walker_from walker.old) letter) }
 {
-    let s = stepped(*walker, &Labels(table), letter);
+    let s = stepped(*walker, table, letter);
     *walker = s.walker;
     s.says
 }

@@ -48,9 +48,13 @@ fn state(rt: &impl Print, model: &[u8], x: usize) -> io::Result<()>
 
 // Whether the reader of models accepts it, with how many states.
 fn accepted(rt: &impl Print, model: &[u8]) -> io::Result<()> {
-    match read_model(model) {
+    let read = read_model(model);
+    match read.answer {
         Err(_) => print!(rt; ", NO MODEL"),
-        Ok(m) => print!(rt; ", states {}, initial {}", m.states, m.initial),
+        Ok(()) => print!(rt;
+            ", states {}, initial {}",
+            read.model.states, read.model.initial
+        ),
     }
 }
 

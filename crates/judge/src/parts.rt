@@ -31,6 +31,8 @@ fn parts<F: Fn(usize, usize) -> bool>(test: F) -> Answers
 }
 
 // An operator of two, everywhere.
+// Apart, as those below: what a level of a nested rule holds is its answers alone.
+#[inline(never)]
 pub fn pair_parts(p: Pair, a: &Answers, b: &Answers) -> Answers
     ensures { Filled (PairAt p a.now b.now) result }
 {
@@ -38,6 +40,7 @@ pub fn pair_parts(p: Pair, a: &Answers, b: &Answers) -> Answers
 }
 
 // `[=i..j]`, everywhere, from the answers for one letter.
+#[inline(never)]
 pub fn occurs_parts(c: Counts, a: &Answers) -> Answers
     ensures { Filled (OccursAt c a.now) result }
 {
@@ -45,6 +48,7 @@ pub fn occurs_parts(c: Counts, a: &Answers) -> Answers
 }
 
 // `[*]`, everywhere: the last place first, since a rest begins later.
+#[inline(never)]
 pub fn star_parts(a: &Answers) -> Answers
     ensures { Filled (StarAt a.now result) result }
 {
@@ -56,6 +60,7 @@ pub fn star_parts(a: &Answers) -> Answers
 }
 
 // `[+]`, everywhere: a first part, perhaps empty, and then a repetition.
+#[inline(never)]
 pub fn plus_parts(a: &Answers) -> Answers
     ensures { PlusOf a.now result }
 {
@@ -81,6 +86,7 @@ pub fn row_parts(c: Counts, a: &Answers) -> Answers
 }
 
 // The empty sequence: a part that ends where it begins.
+#[inline(never)]
 pub fn empty_parts() -> Answers
     ensures { Filled ◌≡◌ result }
 {
@@ -103,6 +109,7 @@ fn letter_row(rule: &[u8], at: usize, letters: &[u8], i: usize) -> u64
 }
 
 // One letter, of which the formula that stands at `at` holds.
+#[inline(never)]
 pub fn letter_parts(rule: &[u8], at: usize, letters: &[u8]) -> Answers
     requires { GoodFormula rule.now at }
     ensures { LetterParts rule.now at letters.now result }

@@ -19,10 +19,9 @@ pub struct LastingStates {
 pub fn lasting(model: &[u8]) -> Result<LastingStates, models::Refusal>
     ensures { LastingRight model.now (told result) }
 {
-    let m = models::read_model(model)?;
-    let set = lasting_states(m.states, &m.successors);
-    Ok(LastingStates {
-        states: m.states,
-        set,
-    })
+    let read = models::read_model(model);
+    read.answer?;
+    let states = read.model.states;
+    let set = lasting_states(states, &read.model.successors);
+    Ok(LastingStates { states, set })
 }

@@ -1,4 +1,3 @@
 pub mod Right
 pub mod Lent
 pub mod inner
-pub mod Through

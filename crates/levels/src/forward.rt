@@ -7,7 +7,7 @@ ghost use Rattle.tables.specs.Beyond.{Beyond};
 ghost use Rattle.automata.specs.Table.{table_states};
 ghost use Rattle.models.specs.Model.{model_states};
 ghost use Rattle.levels.specs.Lent.{pair_count};
-ghost use Rattle.levels.specs.Through.{its_model, its_table, its_labels};
+ghost use Rattle.levels.specs.inner.Through.{its_model, its_table, its_labels};
 ghost use Rattle.levels.specs.inner.Passes.{Along, Ended, FromAll, Workspace, Unmarked};
 ghost use Rattle.levels.specs.inner.Waves.{Queued, Pushed, Fronts, Carried};
 
@@ -54,7 +54,18 @@ fn begin(search: &Searching, front: &mut [u64], marks: &mut [u16], queue: &mut [
         fresh: BEGIN,
     };
     let live = search.states_of(search.sizes.initial);
-    sweep(search, &root, live, front, marks, queue, 0, 0)
+    sweep(
+        search.letters,
+        search.rows,
+        search.sizes.states,
+        &root,
+        live,
+        front,
+        marks,
+        queue,
+        0,
+        0,
+    )
 }
 
 // The next level.
@@ -78,7 +89,16 @@ fn round(
     };
     let live = search.states_of(union(successors, 0, fresh));
     sweep(
-        search, &from, live, after, marks, queue, wave.level, wave.count,
+        search.letters,
+        search.rows,
+        search.sizes.states,
+        &from,
+        live,
+        after,
+        marks,
+        queue,
+        wave.level,
+        wave.count,
     )
 }
 

@@ -2,12 +2,23 @@
 ghost use Rattle.std.specs.Prelude.{◌≤◌, ◌<◌, T, length, get_or};
 ghost use Rattle.bits.specs.Word.{bit};
 ghost use Rattle.bits.specs.Sets.{Members, In};
+ghost use Rattle.automata.specs.Table.{table_entries};
 ghost use Rattle.steps.specs.Rows.{Into, rows_table};
-ghost use Rattle.levels.specs.inner.Passes.{PassInput};
+ghost use Rattle.levels.specs.inner.Passes.{PassInput, HasLetter};
 
 use crate::shape::Sizes;
 use automata::STATES;
 use steps::rows::union;
+
+// What the letter of a state leads to, by the table's rows, from the table states in the set.
+#[inline(always)]
+pub(crate) fn onto(letters: &[u8], rows: &[u64], set: u64, t: usize) -> u64
+    requires { HasLetter letters.now t × (table_entries ≤ length rows.now) }
+    ensures { Members result (Into (rows_table rows.now) (In set) (get_or letters.now t 0)) }
+{
+    let x = letters[t] as usize;
+    union(rows, STATES * x, set)
+}
 
 // Slices and sizes that fit each other.
 #[derive(Clone, Copy)]
@@ -36,7 +47,6 @@ impl Searching<'_> {
         requires { t < self.now.sizes.states }
         ensures { Members result (Into (rows_table self.now.rows.now) (In set) (get_or self.now.letters.now t 0)) }
     {
-        let x = self.letters[t] as usize;
-        union(self.rows, STATES * x, set)
+        onto(self.letters, self.rows, set, t)
     }
 }

@@ -2,30 +2,33 @@
 ghost use Rattle.std.specs.Prelude.{◌≡◌, ℕ, suc, ◌<◌, ◌≤◌, T, length};
 ghost use Rattle.bits.specs.Word.{bit};
 ghost use Rattle.bits.specs.Sets.{Members, Over, In};
+ghost use Rattle.automata.specs.Table.{table_entries};
 ghost use Rattle.models.specs.Model.{model_states};
-ghost use Rattle.levels.specs.Lent.{pair_count};
-ghost use Rattle.levels.specs.inner.Passes.{Workspace};
+ghost use Rattle.levels.specs.Lent.{pair_count, LentLetters};
+ghost use Rattle.levels.specs.inner.Passes.{Workspace, HasLetter};
 ghost use Rattle.levels.specs.inner.Waves.{Queued, Pushed, Incoming, Fronts, Lands};
 
 use crate::marks::{filter, push_all};
-use crate::searching::Searching;
+use crate::searching::onto;
 use crate::senders::Senders;
 use crate::shape::Wave;
 use bits::rising::members;
 
 // The table states that come new to t.
-fn incoming(search: &Searching, from: &Senders, marks: &[u16], t: usize) -> u64
-    requires { (t < search.now.sizes.states) × (pair_count ≤ length marks.now) }
-    ensures { Members result (Incoming search.now.rows.now search.now.letters.now from.now.successors.now from.now.front.now marks.now from.now.fresh t) }
+fn incoming(letters: &[u8], rows: &[u64], from: &Senders, marks: &[u16], t: usize) -> u64
+    requires { HasLetter letters.now t × (table_entries ≤ length rows.now) × (pair_count ≤ length marks.now) }
+    ensures { Members result (Incoming rows.now letters.now from.now.successors.now from.now.front.now marks.now from.now.fresh t) }
 {
     let handed = from.gather(t);
-    let set = search.onto(handed, t);
+    let set = onto(letters, rows, handed, t);
     filter(marks, set, t, 0)
 }
 
 // The rows of the states in `live`, one after the other: the level after `level`, with `count` pairs listed before.
-pub(crate) fn sweep(
-    search: &Searching,
+pub fn sweep(
+    letters: &[u8],
+    rows: &[u64],
+    states: usize,
     from: &Senders,
     live: u64,
     after: &mut [u64],
@@ -34,13 +37,13 @@ pub(crate) fn sweep(
     level: u16,
     count: usize,
 ) -> Wave
-    requires { ((t : ℕ) → T (bit live t) → t < search.now.sizes.states) × (model_states ≤ length after.old) × Workspace marks.old queue.old × (level < pair_count) × Queued level marks.old queue.old count }
-    ensures { (result.level ≡ suc level) × (length after.new ≡ length after.old) × Pushed level marks.old marks.new queue.old queue.new (λ i. Over (In live) (λ t. Lands search.now.rows.now search.now.letters.now from.now.successors.now from.now.front.now from.now.fresh t i)) count result.count × Fronts marks.new search.now.sizes.states (suc level) result.fresh after.new }
+    requires { LentLetters letters.now states × (table_entries ≤ length rows.now) × (model_states ≤ length after.old) × Workspace marks.old queue.old × ((t : ℕ) → T (bit live t) → t < states) × (level < pair_count) × Queued level marks.old queue.old count }
+    ensures { (result.level ≡ suc level) × (length after.new ≡ length after.old) × Pushed level marks.old marks.new queue.old queue.new (λ i. Over (In live) (λ t. Lands rows.now letters.now from.now.successors.now from.now.front.now from.now.fresh t i)) count result.count × Fronts marks.new states (suc level) result.fresh after.new }
 {
     let mut next: u64 = 0;
     let mut total = count;
     for t in members(live) {
-        let new = incoming(search, from, marks, t);
+        let new = incoming(letters, rows, from, marks, t);
         after[t] = new;
         total = push_all(marks, queue, new, t, level, total);
         next = bits::with_if(next, t, new != 0);

@@ -39,6 +39,19 @@ states_room r i =
     ∙ ap (λ (z : List ℕ). length (states_text z)) (take-append-drop i r) in
     omega arith
 
+-- a part of a run is no longer, and all of it is the run
+pub states_part : (r : List ℕ) (n m : ℕ) → length (states_text (take n (drop m r))) ≤ length (states_text r)
+states_part r n m =
+    let l : length (states_text (take m r)) + length (states_text (drop m r)) ≡ length (states_text r) =
+    sym (length-append (states_text (take m r)) (states_text (drop m r)))
+    ∙ ap length (sym (states_append (take m r) (drop m r)))
+    ∙ ap (λ (z : List ℕ). length (states_text z)) (take-append-drop m r) in
+    let p = states_room (drop m r) n in
+    omega arith
+
+pub states_all : (r : List ℕ) (n m : ℕ) → n ≡ length r → m ≡ 0 → states_text (take n (drop m r)) ≡ states_text r
+states_all r n m e z = ap (λ (k : ℕ). states_text (take n (drop k r))) z ∙ ap states_text (take_all n r (omega arith))
+
 -- a blank and at most two digits for each state
 pub states_short : (M : Model) → M.states ≤ 64 → (ok : ℕ → Bool) (r : List ℕ) → Walk M ok r → length (states_text r) ≤ 3 * length r
 unfolding states_text
@@ -69,3 +82,7 @@ states_none r b at = wrote_none b at
 
 pub states_whole : (r b : List ℕ) (at i : ℕ) {o : List ℕ} {e : ℕ} → length r ≤ i → Wrote (states_text (take i r)) b at o e → Wrote (states_text r) b at o e
 states_whole r b at i {o} {e} h x = subst (λ (z : List ℕ). Wrote (states_text z) b at o e) (take_all i r h) x
+
+-- what is written is the text of all of it
+pub states_as : (r : List ℕ) {p b o : List ℕ} {at e : ℕ} → Wrote p b at o e → p ≡ states_text r → Wrote (states_text r) b at o e
+states_as r {p} {b} {o} {at} {e} x q = subst (λ (z : List ℕ). Wrote z b at o e) q x

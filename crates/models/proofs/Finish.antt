@@ -5,9 +5,10 @@ use mathlib.Core.Path.{◌≡◌, sym, ap, subst, ◌∙◌}
 use mathlib.Core.List.{List}
 use lib.ListN.{get_or}
 use Rattle.models.specs.declared.ModelData.{ModelData}
+use Rattle.models.specs.declared.ModelRead.{ModelRead}
 use Rattle.models.specs.Reading.{Outcome, good, records, linked, then_linked, Whole}
 use Rattle.models.specs.Stored.{stored, Held}
-use Rattle.models.specs.Answer.{Result, accepted, given, answer}
+use Rattle.models.specs.Answer.{Result, accepted, given, answer, told}
 use Rattle.models.proofs.Passes.{counts}
 use Rattle.models.proofs.Soundness.{answer_held}
 use Rattle.models.specs.Model.{model_states}
@@ -23,6 +24,6 @@ module _ (s : List ℕ) (n : ℕ) (e : good n ≡ records model_states s 0) wher
       ap (λ (m : ModelData). record { verdict = accepted; model = m }) h
       ∙ ap (given s) f ∙ ap (λ (o : Outcome). given s (then_linked s o)) e
 
--- a model that is the right answer is sound
-pub right_held : (s : List ℕ) → ((i : ℕ) → get_or s i 0 < 256) → (m : ModelData) → ◌≡◌ {A = Result} (record { verdict = accepted; model = m }) (answer s) → Held m
-right_held s bytes m e = subst (λ (x : Result). Held x.model) (sym e) (answer_held s bytes)
+-- an answer that is the right one comes with a sound model
+pub right : (s : List ℕ) → ((i : ℕ) → get_or s i 0 < 256) → (r : ModelRead) → told r ≡ answer s → Held r.model
+right s bytes r e = subst (λ (x : Result). Held x.model) (sym e) (answer_held s bytes)

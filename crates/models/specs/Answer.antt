@@ -4,6 +4,7 @@ use Rattle.std.specs.Prelude as std
 use Rattle.models.specs.declared.Refusal.{Refusal}
 use Rattle.models.specs.declared.Refusal.TheVariants.{TooMany, WrongKind, CutShort, LetterTooLarge, WrongFlag, NoSuchState}
 use Rattle.models.specs.declared.ModelData.{ModelData}
+use Rattle.models.specs.declared.ModelRead.{ModelRead}
 use Rattle.models.specs.Reading.{Outcome, good, fault, reading}
 use Rattle.models.specs.Stored.{stored, no_states}
 
@@ -45,10 +46,18 @@ given s (fault number place) = refused_as number place
 abbrev pub answer : List ℕ → Result
 answer s = given s (reading s)
 
--- the number and the values of each case of the answer: no state stands for a model that there is not
-abbrev pub told : std.Result ModelData Refusal → Result
-told (Ok m) = record { verdict = accepted; model = m }
-told (Err x) = refused_as (number x) (place x)
+-- the number and the values of each case of the answer
+abbrev pub verdict_of : std.Result ⊤ Refusal → Verdict
+verdict_of (Ok x) = accepted
+verdict_of (Err x) = refused (number x) (place x)
+
+abbrev pub told : ModelRead → Result
+told r = record { verdict = verdict_of r.answer; model = r.model }
+
+-- the same of the model alone, which is there where it is accepted
+abbrev pub stored_as : std.Result ModelData Refusal → Result
+stored_as (Ok m) = record { verdict = accepted; model = m }
+stored_as (Err x) = refused_as (number x) (place x)
 
 -- the same in the middle of reading: how it goes on after a part that is in order, or at fault
 abbrev pub onward : std.Result ⊤ Refusal → Outcome → Outcome

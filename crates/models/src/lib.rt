@@ -1,9 +1,9 @@
 // Reads a model of jobs in the house form: its states, or the first refusal with its place.
 #![tactic(auto)]
 
-ghost use Rattle.std.specs.Prelude.{◌≡◌, IfOk};
+ghost use Rattle.std.specs.Prelude.{◌≡◌};
 ghost use Rattle.models.specs.Stored.{Held};
-ghost use Rattle.models.specs.Answer.{number, place, told, answer};
+ghost use Rattle.models.specs.Answer.{number, place, refused_as, stored_as, told, answer};
 
 use crate::layout::{MOST, RECORD};
 use crate::records::{count_states, links};
@@ -69,12 +69,47 @@ impl Refusal {
     }
 }
 
-// Reads a whole model, and answers for all bytes: refusals 11 to 16, or the model.
-pub fn read_model(model: &[u8]) -> Result<ModelData, Refusal>
-    ensures answered { told result ≡ answer model.now }
-    ensures held { IfOk result (λ m. Held m) }
+// The answer, and the model beside it: one with no states where it is refused.
+#[derive(Drop)]
+pub struct ModelRead {
+    pub answer: Result<(), Refusal>,
+    pub model: ModelData,
+}
+
+// The model that the bytes are, or the first refusal.
+fn stored_in(model: &[u8]) -> Result<ModelData, Refusal>
+    ensures { stored_as result ≡ answer model.now }
 {
     let n = count_states(model)?;
     links(model, n)?;
     Ok(model_of(model, n))
+}
+
+// A refusal comes with the model that has no states.
+fn refused(x: Refusal) -> ModelRead
+    ensures { told result ≡ refused_as (number x) (place x) }
+{
+    ModelRead {
+        answer: Err(x),
+        model: ModelData {
+            states: 0,
+            letters: [0u8; 64],
+            initial: 0,
+            successors: [0u64; 64],
+        },
+    }
+}
+
+// Reads a whole model, and answers for all bytes: refusals 11 to 16, or the model.
+pub fn read_model(model: &[u8]) -> ModelRead
+    ensures answered { told result ≡ answer model.now }
+    ensures held { Held result.model }
+{
+    match stored_in(model) {
+        Ok(m) => ModelRead {
+            answer: Ok(()),
+            model: m,
+        },
+        Err(x) => refused(x),
+    }
 }

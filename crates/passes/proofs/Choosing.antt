@@ -12,7 +12,7 @@ use Rattle.bits.proofs.Resting.{in_word}
 use Rattle.automata.proofs.TableOf.{edge_out}
 use Rattle.steps.specs.Rows.{Into, rows_table}
 use Rattle.levels.specs.declared.searching.Searching.{Searching}
-use Rattle.levels.specs.Through.{its_labels}
+use Rattle.levels.specs.inner.Through.{its_labels}
 use Rattle.levels.specs.inner.Passes.{Under, view, Onward, CanNext}
 use Rattle.passes.specs.inner.Uses.{Holds, flat, useful_at}
 use Rattle.passes.proofs.Keeping.{flat_some}

@@ -8,7 +8,7 @@ ghost use Rattle.bits.specs.Sets.{Over, In};
 ghost use Rattle.automata.specs.Table.{table_states};
 ghost use Rattle.models.specs.Model.{model_states};
 ghost use Rattle.levels.specs.Lent.{pair_count};
-ghost use Rattle.levels.specs.Through.{its_model, its_table};
+ghost use Rattle.levels.specs.inner.Through.{its_model, its_table};
 ghost use Rattle.levels.specs.inner.Passes.{view, Marked, Useful, useful_sets, NoSets};
 ghost use Rattle.levels.specs.inner.Waves.{Queued};
 ghost use Rattle.passes.specs.inner.Uses.{Meets, Keeps, Settles, flat};

@@ -5,7 +5,7 @@ ghost use Rattle.bits.specs.Word.{bit};
 ghost use Rattle.bits.specs.Sets.{Members};
 ghost use Rattle.tables.specs.Beyond.{Beyond};
 ghost use Rattle.levels.specs.Lent.{pair_count};
-ghost use Rattle.levels.specs.Through.{its_model, its_table};
+ghost use Rattle.levels.specs.inner.Through.{its_model, its_table};
 ghost use Rattle.levels.specs.inner.Passes.{Pickable, Picked, useful_sets};
 ghost use Rattle.passes.specs.inner.Uses.{Holds, flat};
 

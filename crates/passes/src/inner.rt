@@ -4,7 +4,7 @@ ghost use Rattle.tables.specs.Beyond.{Beyond};
 ghost use Rattle.automata.specs.Table.{table_states};
 ghost use Rattle.models.specs.Model.{Run};
 ghost use Rattle.levels.specs.Lent.{model_in_of, table_in, LentTable, LentLetters, pair_count};
-ghost use Rattle.levels.specs.Through.{its_model, its_table};
+ghost use Rattle.levels.specs.inner.Through.{its_model, its_table};
 ghost use Rattle.levels.specs.inner.Passes.{Workspace, useful_sets, Unmarked, NoSets};
 ghost use Rattle.passes.specs.Told.{Answers, SearchedTable};
 

@@ -12,6 +12,7 @@ pub mod layout; // rows by letter as a table
 pub mod sequences; // a whole sequence at once
 
 // The walker moved by the letter; a refusal gives it back as it came.
+#[tactic(auto, using(walkers::proofs::Answers::step_short, walkers::proofs::Answers::step_bad, crate::proofs::Alike::as_short, crate::proofs::Alike::as_long))]
 pub fn step_rows(walker: Walker, rows: &[u64], letter: u8) -> Step
     ensures { told result ≡ step_of (table_by rows.now) walker letter }
 {

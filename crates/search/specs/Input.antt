@@ -6,7 +6,7 @@ use Rattle.rules.specs.declared.Known.{Known}
 use Rattle.models.specs.Stored.{Held}
 use Rattle.models.specs.Answer as models
 use Rattle.search.specs.declared.Refusal.{Refusal}
-use Rattle.search.specs.declared.input.Input.{Input}
+use Rattle.search.specs.declared.input.InputRead.{InputRead}
 use Rattle.search.specs.Refusals.{number, place}
 use Rattle.search.specs.Answer.{Slices, LongEnough, SearchRefused}
 
@@ -18,13 +18,13 @@ pub record Usable (rule model : List ℕ) (lent : Slices) (k : Known) : Type 0 w
   pub model_accepted : (models.answer model).verdict ≡ models.accepted
   pub long : LongEnough lent
 
--- what was read of an input that is usable, and the model is the one that its reader stores
-pub record InputUsable (rule model : List ℕ) (lent : Slices) (i : Input) : Type 0 where
-  pub usable : Usable rule model lent i.rule
-  pub stored : i.model ≡ (models.answer model).model
-  pub held : Held i.model
-
 -- the answer is right
-abbrev pub InputRight : List ℕ → List ℕ → Slices → Result Input Refusal → Type 0
-InputRight rule model lent (Ok i) = InputUsable rule model lent i
-InputRight rule model lent (Err x) = SearchRefused rule model lent (number x) (place x)
+abbrev pub AnswerRight : List ℕ → List ℕ → Slices → Result Known Refusal → Type 0
+AnswerRight rule model lent (Ok k) = Usable rule model lent k
+AnswerRight rule model lent (Err x) = SearchRefused rule model lent (number x) (place x)
+
+-- and the model beside it is the one that its reader stores
+pub record InputRight (rule model : List ℕ) (lent : Slices) (r : InputRead) : Type 0 where
+  pub answer : AnswerRight rule model lent r.answer
+  pub stored : r.model ≡ (models.answer model).model
+  pub held : Held r.model

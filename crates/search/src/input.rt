@@ -8,6 +8,7 @@ ghost use Rattle.levels.specs.Lent.{LentTable, pair_count};
 ghost use Rattle.passes.specs.Told.{SearchedTable};
 ghost use Rattle.search.specs.Answer.{slices, LongEnough};
 ghost use Rattle.search.specs.Input.{InputRight};
+ghost use Rattle.search.specs.inner.Inputs.{InputAnswers};
 
 use crate::Refusal;
 use automata::TABLE_ENTRIES;
@@ -17,10 +18,10 @@ use models::ModelData;
 use passes::inner::{Searched, search_table};
 use rules::Known;
 
-// What is known of the rule, and the model that was read.
+// What is known of the rule, or why nothing is searched; and beside it the model: one with no states where it is refused.
 #[derive(Drop)]
-pub struct Input {
-    pub rule: Known,
+pub struct InputRead {
+    pub answer: Result<Known, Refusal>,
     pub model: ModelData,
 }
 
@@ -40,7 +41,24 @@ fn long_enough(table: &[u64], marks: &[u16], useful: &[u16], run: &[u8]) -> bool
     PAIRS <= run.len()
 }
 
-// Reads the rule and the model and measures the slices: all refusals of a call that searches, the rule's before the model's, and these before a short slice.
+// The rule is read, and its refusals come before the model's, and these before a short slice.
+fn input_answer(
+    rule: &[u8],
+    model: Result<(), models::Refusal>,
+    long: bool,
+) -> Result<Known, Refusal>
+    ensures { InputAnswers rule.now model long result }
+{
+    let known = rules::read_rule(rule)?;
+    model?;
+    if !long {
+        return Err(Refusal::ShortSlice);
+    }
+    Ok(known)
+}
+
+// Reads the rule and the model and measures the slices: all refusals of a call that searches.
+#[tactic(auto, using(crate::proofs::Whole::input_right))]
 pub fn read_input(
     rule: &[u8],
     model: &[u8],
@@ -48,18 +66,16 @@ pub fn read_input(
     marks: &[u16],
     useful: &[u16],
     run: &[u8],
-) -> Result<Input, Refusal>
+) -> InputRead
     ensures { InputRight rule.now model.now (slices table.now marks.now useful.now run.now) result }
 {
-    let known = rules::read_rule(rule)?;
-    let stored = models::read_model(model)?;
-    if !long_enough(table, marks, useful, run) {
-        return Err(Refusal::ShortSlice);
+    let read = models::read_model(model);
+    let long = long_enough(table, marks, useful, run);
+    let answer = input_answer(rule, read.answer, long);
+    InputRead {
+        answer,
+        model: read.model,
     }
-    Ok(Input {
-        rule: known,
-        model: stored,
-    })
 }
 
 // Searches the model that was read over a table of so many states. Only runs that can be continued for ever count: the states from which

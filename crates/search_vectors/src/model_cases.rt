@@ -5,8 +5,12 @@ use std::io;
 
 fn read(rt: &impl Print, name: &str, model: &[u8]) -> io::Result<()> {
     print!(rt; "{name}: ")?;
-    match models::read_model(model) {
-        Ok(m) => println!(rt; "states {}, initial {}", m.states, m.initial),
+    let read = models::read_model(model);
+    match read.answer {
+        Ok(()) => println!(rt;
+            "states {}, initial {}",
+            read.model.states, read.model.initial
+        ),
         Err(x) => show::refused(rt, x.number(), x.place()),
     }
 }

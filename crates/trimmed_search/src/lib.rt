@@ -20,8 +20,8 @@ pub fn search_trimmed(
 ) -> Result<Answered, Refusal>
     ensures { TrimmedSearchRight rule.now model.now (slices table.old marks.old useful.old run.old) (slices table.new marks.new useful.new run.new) (told result run.new) }
 {
-    let input = read_input(rule, model, table, marks, useful, run)?;
-    let known = input.rule;
+    let input = read_input(rule, model, table, marks, useful, run);
+    let known = input.answer?;
     let finals = build_accepted(rule, table);
     let trimmed = trim_standing(table, known.weight, finals);
     let stored = input.model;

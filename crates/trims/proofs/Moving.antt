@@ -1,7 +1,7 @@
 -- Moving labels to new numbers. Assumes nothing.
 use Prim.Native.Nat.{ℕ, ◌+◌, ◌<◌, ◌≤◌}
 use native.Mathlib.Omega.{arith}
-use mathlib.Core.Path.{◌≡◌, sym, ◌∙◌}
+use mathlib.Core.Path.{◌≡◌, sym, ap₂, ◌∙◌}
 use mathlib.Core.Logic.{◌⊎◌, inl, inr}
 use mathlib.Core.Bool.{and-false}
 use mathlib.Core.List.{List}
@@ -25,6 +25,11 @@ module _ (t from : List ℕ) (i j : ℕ) where
   pub moved_here : i < length from → j < length from → moved_label_of t from i j ≡ cell t (get_or from i 0) (get_or from j 0)
   unfolding moved_label_of
   moved_here a b = rw (lt-ltb i (length from) a, lt-ltb j (length from) b)
+
+  -- read at two places that are i and j
+  pub moved_read : (p q : ℕ) → p < length from → q < length from → p ≡ i → q ≡ j → cell t (get_or from p 0) (get_or from q 0) ≡ moved_label_of t from i j
+  moved_read p q a b x y =
+      ap₂ (λ (m n : ℕ). cell t (get_or from m 0) (get_or from n 0)) x y ∙ sym (moved_here (omega arith) (omega arith))
 
 -- what is read has not been written yet
 module _ (t u from : List ℕ) (i j : ℕ) where

@@ -15,6 +15,10 @@ unfoldable pub follow_from : List ℕ → ℕ → ℕ → ℕ → List ℕ → R
 follow_from t finals set i [] = flag (meets set finals)
 follow_from t finals set i (x ∷ w) = cond (ltb x letter_count) (follow_from t finals (advanced t set x) (i + 1) w) (refusal bad_letter_number i)
 
+-- all letters, from a set
+unfoldable pub follow_set : List ℕ → ℕ → ℕ → List ℕ → Reply
+follow_set t finals set w = cond (ltb (length t) table_entries) (refusal short_slice_number 0) (follow_from t finals set 0 w)
+
 -- all letters, from {0}
 unfoldable pub follow_of : List ℕ → ℕ → List ℕ → Reply
 follow_of t finals w = cond (ltb (length t) table_entries) (refusal short_slice_number 0) (follow_from t finals (start_of finals).set 0 w)

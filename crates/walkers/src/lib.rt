@@ -7,7 +7,7 @@ ghost use Rattle.automata.specs.Table.{table_entries};
 ghost use Rattle.walkers.specs.declared.Refusal.TheVariants.{ShortTable, BadLetter};
 ghost use Rattle.walkers.specs.Refusals.{number, place};
 ghost use Rattle.walkers.specs.Steps.{largest_count, walker_at, start_of, refused_as, led_to_of, given, told, step_of};
-ghost use Rattle.walkers.specs.Walks.{follow_of, ending, Follows};
+ghost use Rattle.walkers.specs.Walks.{follow_set, follow_of, ending, Follows};
 
 use crate::layouts::{Labels, Layout};
 use automata::TABLE_ENTRIES;
@@ -208,12 +208,25 @@ pub fn step_lent_on<L: Layout>(walker: &mut Walker, layout: &L, letter: u8) -> R
 }
 
 // Whether the letters lead from state 0 to a final state, over a table in any layout.
+#[tactic(auto, using(crate::proofs::Answers::follow_begun, crate::proofs::Once::follows))]
 pub fn follow_on<L: Layout>(layout: &L, finals: u64, letters: &[u8]) -> Result<bool, Refusal>
     ensures result_value { ending result ≡ follow_of (L.table layout.now) finals letters.now }
     ensures follows { Follows (L.table layout.now) finals letters.now result }
 {
+    follow_from(layout, 1, finals, letters)
+}
+
+// Whether the letters lead from a state of the set to a final state; a table that is too short is refused first.
+pub fn follow_from<L: Layout>(
+    layout: &L,
+    set: u64,
+    finals: u64,
+    letters: &[u8],
+) -> Result<bool, Refusal>
+    ensures { ending result ≡ follow_set (L.table layout.now) finals set letters.now }
+{
     table_fits(layout)?;
-    let mut set: u64 = 1;
+    let mut set = set;
     for (i, letter) in letters.iter().enumerate() {
         letter_fits(*letter, i)?;
         set = layout.advance(set, *letter);

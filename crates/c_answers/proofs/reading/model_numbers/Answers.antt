@@ -7,7 +7,7 @@ use Rattle.c_answers.proofs.Given.{by_case, by_numbers, model_of}
 use Rattle.c_answers.proofs.reading.model_numbers.Goals as goal
 
 pub returns-in-Ok : goal.returns-in-Ok
-returns-in-Ok c = by_case model_of c.in-Ok.is refl
+returns-in-Ok c = by_case (model_of c.args.read.model) c.in-Ok.is refl
 
 pub returns-in-Err : goal.returns-in-Err
-returns-in-Err c = by_case model_of c.in-Err.is (by_numbers (λ (n p : ℕ). state_numbers 0 (models.refused n p)) refl c.number.ensures c.place.ensures)
+returns-in-Err c = by_case (model_of c.args.read.model) c.in-Err.is (by_numbers (λ (n p : ℕ). state_numbers 0 (models.refused n p)) refl c.number.ensures c.place.ensures)

@@ -11,7 +11,9 @@ pub invariant_of-root : goal.invariant_of-root
 invariant_of-root c = record { sending = λ s t. let z : 0 ≡ s = members_first.holds s t in (omega arith, omega arith) }
 
 pub sweep-requires : goal.sweep-requires
-sweep-requires c = let p = c.requires in (λ t h. (c.states_of-live.ensures.holds t h).1, p.0, p.1, omega arith, queued_none _ _ p.2)
+sweep-requires c = let p = c.requires in
+    let n = c.args.search.now.lent in
+    (n.model, n.by_letter.long, p.0, p.1, λ t h. (c.states_of-live.ensures.holds t h).1, omega arith, queued_none _ _ p.2)
 
 pub shape_of-front : goal.shape_of-front
 shape_of-front c = c.sweep.ensures.1

@@ -5,7 +5,7 @@ use Prim.Native.Nat.{◌+◌, ◌-◌, min}
 use lib.ListN.{length}
 use Rattle.models.specs.Model.{model_states}
 use Rattle.levels.specs.Lent.{pair_count}
-use Rattle.levels.specs.Through.{its_model, its_table}
+use Rattle.levels.specs.inner.Through.{its_model, its_table}
 use Rattle.levels.proofs.Flowing.{Flow}
 use Rattle.levels.proofs.forward.forward.Given as goal
 

@@ -14,7 +14,9 @@ pub union-requires : goal.union-requires
 union-requires c = λ k t. omega (arith, c.requires.5.inside k t, c.args.search.now.long)
 
 pub sweep-requires : goal.sweep-requires
-sweep-requires c = let p = c.requires in (λ t h. (c.states_of-live.ensures.holds t h).1, p.1, p.2, p.3, p.4)
+sweep-requires c = let p = c.requires in
+    let n = c.args.search.now.lent in
+    (n.model, n.by_letter.long, p.1, p.2, λ t h. (c.states_of-live.ensures.holds t h).1, p.3, p.4)
 
 pub shape_of-after : goal.shape_of-after
 shape_of-after c = c.sweep.ensures.1

@@ -12,5 +12,5 @@ use Rattle.levels.proofs.sweep.sweep.Given as goal
 
 abbrev pub invariant-loop-t : goal.invariant-loop-t
 invariant-loop-t l = Rest l.live l.t-iterator.rest × (length l.after ≡ length l.initial.after)
-    × Pushed l.level l.initial.marks l.marks l.initial.queue l.queue (λ i. Over (Done l.live l.t-iterator.rest) (λ t. Lands l.search.rows.now l.search.letters.now l.from.successors.now l.from.front.now l.from.fresh t i)) l.initial.total l.total
-    × Fronts l.marks l.search.sizes.states (suc l.level) l.next l.after × ((k : ℕ) → T (bit l.next k) → Done l.live l.t-iterator.rest k)
+    × Pushed l.level l.initial.marks l.marks l.initial.queue l.queue (λ i. Over (Done l.live l.t-iterator.rest) (λ t. Lands l.rows l.letters l.from.successors.now l.from.front.now l.from.fresh t i)) l.initial.total l.total
+    × Fronts l.marks l.states (suc l.level) l.next l.after × ((k : ℕ) → T (bit l.next k) → Done l.live l.t-iterator.rest k)

@@ -1,7 +1,7 @@
 -- `backward::backward` meets its contract. The invariant: the pairs listed from i on are settled.
 -- Assumes nothing.
 use lib.ListN.{length}
-use Rattle.levels.specs.Through.{its_model, its_table}
+use Rattle.levels.specs.inner.Through.{its_model, its_table}
 use Rattle.passes.proofs.Keeping.{Backed}
 use Rattle.passes.proofs.backward.backward.Given as goal
 

@@ -2,7 +2,7 @@
 -- Assumes nothing.
 use Prim.Native.Nat.{◌<◌, ◌^◌}
 use Rattle.tables.specs.Beyond.{Beyond}
-use Rattle.levels.specs.Through.{its_model, its_table}
+use Rattle.levels.specs.inner.Through.{its_model, its_table}
 use Rattle.passes.proofs.Picking.{Written}
 use Rattle.passes.proofs.choose.pick.Given as goal
 

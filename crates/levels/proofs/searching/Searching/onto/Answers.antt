@@ -1,13 +1,7 @@
--- `onto` meets its contract. The rows of the set's members for the letter.
+-- `Searching::onto` meets its contract. A state of the model has its letter.
 -- Assumes nothing.
-use native.Mathlib.Omega.{arith}
-use Rattle.bits.proofs.Members.{members_same}
-use Rattle.bits.proofs.Resting.{in_word}
+use Rattle.levels.proofs.UsedLetters.{has_letter}
 use Rattle.levels.proofs.searching.Searching.onto.Goals as goal
 
-pub union-requires : goal.union-requires
-union-requires c = let s = c.args.self.now in
-    λ k t. omega (arith, in_word k c.ranges.set.fits t, s.lent.model.small c.args.t c.requires, s.lent.by_letter.long)
-
-pub returns : goal.returns
-returns c = members_same c.union.ensures (λ p o. record { from = o.at; held = o.inside; reads = o.holds }) (λ p h. record { at = h.from; inside = h.held; holds = h.reads })
+pub onto-requires : goal.onto-requires
+onto-requires c = let s = c.args.self.now in (has_letter s.lent.model c.requires, s.lent.by_letter.long)
