@@ -6,14 +6,17 @@ ghost use Rattle.lasting.specs.Stored.{kept_ways_of, WithoutDeadEnds};
 
 use crate::rounds::lasting_states;
 use models::ModelData;
-use std::array::from_fn;
 
 // Each state's successors that are in the set.
 fn kept_ways(set: u64, successors: &[u64; 64], states: usize) -> [u64; 64]
     requires { states ≤ model_states }
     ensures { result ≡ column states (kept_ways_of set successors.now) }
 {
-    from_fn(|k| if k < states { successors[k] & set } else { 0 })
+    let mut ways = [0u64; 64];
+    for k in 0..states {
+        ways[k] = successors[k] & set;
+    }
+    ways
 }
 
 // A step from a state that is taken out enters one that is, so it is enough to keep to the set where a run begins and where it goes.

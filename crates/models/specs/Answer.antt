@@ -54,11 +54,6 @@ verdict_of (Err x) = refused (number x) (place x)
 abbrev pub told : ModelRead → Result
 told r = record { verdict = verdict_of r.answer; model = r.model }
 
--- the same of the model alone, which is there where it is accepted
-abbrev pub stored_as : std.Result ModelData Refusal → Result
-stored_as (Ok m) = record { verdict = accepted; model = m }
-stored_as (Err x) = refused_as (number x) (place x)
-
 -- the same in the middle of reading: how it goes on after a part that is in order, or at fault
 abbrev pub onward : std.Result ⊤ Refusal → Outcome → Outcome
 onward (Ok x) on = on

@@ -3,7 +3,8 @@
 
 ghost use Rattle.std.specs.Prelude.{◌≡◌};
 ghost use Rattle.models.specs.Stored.{Held};
-ghost use Rattle.models.specs.Answer.{number, place, refused_as, stored_as, told, answer};
+ghost use Rattle.models.specs.Answer.{number, place, refused_as, counted, told, answer};
+ghost use Rattle.models.specs.Reading.{reading};
 
 use crate::layout::{MOST, RECORD};
 use crate::records::{count_states, links};
@@ -76,13 +77,13 @@ pub struct ModelRead {
     pub model: ModelData,
 }
 
-// The model that the bytes are, or the first refusal.
-fn stored_in(model: &[u8]) -> Result<ModelData, Refusal>
-    ensures { stored_as result ≡ answer model.now }
+// How many states the bytes are, all in order, or the first refusal.
+fn states_of(model: &[u8]) -> Result<usize, Refusal>
+    ensures { counted result ≡ reading model.now }
 {
     let n = count_states(model)?;
     links(model, n)?;
-    Ok(model_of(model, n))
+    Ok(n)
 }
 
 // A refusal comes with the model that has no states.
@@ -105,10 +106,10 @@ pub fn read_model(model: &[u8]) -> ModelRead
     ensures answered { told result ≡ answer model.now }
     ensures held { Held result.model }
 {
-    match stored_in(model) {
-        Ok(m) => ModelRead {
+    match states_of(model) {
+        Ok(n) => ModelRead {
             answer: Ok(()),
-            model: m,
+            model: model_of(model, n),
         },
         Err(x) => refused(x),
     }

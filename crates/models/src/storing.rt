@@ -8,14 +8,17 @@ use crate::ModelData;
 use crate::layout::{FLAG, INITIAL, LETTER, RECORD, SUCCESSORS};
 use bits::those::those;
 use bits::word_at;
-use std::array::from_fn;
 
 // The letters of the n states.
 fn letters_of(model: &[u8], n: usize) -> [u8; 64]
     requires { Whole model.now n }
     ensures { result ≡ column n (letter model.now) }
 {
-    from_fn(|k| if k < n { model[RECORD * k + LETTER] } else { 0 })
+    let mut letters = [0u8; 64];
+    for k in 0..n {
+        letters[k] = model[RECORD * k + LETTER];
+    }
+    letters
 }
 
 // The initial states among the n.
@@ -31,11 +34,11 @@ fn successors_of(model: &[u8], n: usize) -> [u64; 64]
     requires { Whole model.now n }
     ensures { result ≡ column n (successors model.now) }
 {
-    from_fn(|k| if k < n {
-        word_at(model, RECORD * k + SUCCESSORS)
-    } else {
-        0
-    })
+    let mut successors = [0u64; 64];
+    for k in 0..n {
+        successors[k] = word_at(model, RECORD * k + SUCCESSORS);
+    }
+    successors
 }
 
 // The model of n states that the bytes are.

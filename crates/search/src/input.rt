@@ -57,7 +57,9 @@ fn input_answer(
     Ok(known)
 }
 
-// Reads the rule and the model and measures the slices: all refusals of a call that searches.
+// Reads the rule and the model and measures the slices: all refusals of a call that searches. It is kept out of the compiled `search`,
+// which then goes into its callers: what is refused waits for no table to be set to 0.
+#[inline(never)]
 #[tactic(auto, using(crate::proofs::Whole::input_right))]
 pub fn read_input(
     rule: &[u8],

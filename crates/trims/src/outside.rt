@@ -12,7 +12,7 @@ fn stray_label(table: &[u64], n: usize, p: usize, q: usize) -> bool
     requires { (table_entries ≤ length table.now) × (p < table_states) × (q < table_states) }
     ensures { Says result (StrayLabel table.now n p q) }
 {
-    get(table, p, q) != 0 && (n <= p || n <= q)
+    (n <= p || n <= q) && get(table, p, q) != 0
 }
 
 // Whether row p has such a label.

@@ -1,7 +1,13 @@
 -- `lasting::alive::kept_ways` meets its contract. Assumes nothing.
-use borrow.Author.Rules.{rules}
-use Rattle.models.proofs.Columns.{made_column}
+use native.Mathlib.Omega.{arith}
+use mathlib.Core.Path.{refl}
+use Rattle.models.proofs.Columns.{column_none, column_turn}
+use Rattle.lasting.specs.Stored.{kept_ways_of}
 use Rattle.lasting.proofs.alive.kept_ways.Goals as goal
 
-pub returns : goal.returns
-returns c = made_column _ _ _ _ c.from_fn.ensures.items (λ q j y l h. record { within = λ a. search rules; past = λ a. search rules; stays = search rules })
+pub loop-k-init : goal.loop-k-init
+loop-k-init c = column_none _
+
+pub loop-k-preserved : goal.loop-k-preserved
+loop-k-preserved c =
+    column_turn c.loop-k.k _ (kept_ways_of c.args.set c.args.successors.now) c.loop-k.ways (omega arith) c.loop-k.invariant refl

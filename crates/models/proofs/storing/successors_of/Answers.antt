@@ -1,7 +1,12 @@
 -- `models::successors_of` meets its contract. Assumes nothing.
-use borrow.Author.Rules.{rules}
-use Rattle.models.proofs.Columns.{made_column}
+use native.Mathlib.Omega.{arith}
+use Rattle.models.specs.Reading.{successors}
+use Rattle.models.proofs.Columns.{column_none, column_turn}
 use Rattle.models.proofs.storing.successors_of.Goals as goal
 
-pub returns : goal.returns
-returns c = made_column _ _ _ _ c.from_fn.ensures.items (λ q j y l h. record { within = λ a. search rules; past = λ a. search rules; stays = search rules })
+pub loop-k-init : goal.loop-k-init
+loop-k-init c = column_none _
+
+pub loop-k-preserved : goal.loop-k-preserved
+loop-k-preserved c =
+    column_turn c.loop-k.k _ (successors c.args.model.now) c.loop-k.successors (omega arith) c.loop-k.invariant c.word_at.ensures
