@@ -7,19 +7,19 @@ use mathlib.Core.List.{List}
 use native.Mathlib.Omega.{arith}
 use native.Mathlib.Nat.{zero-add}
 use lib.Bits.{bit_and}
-use lib.Dec.{T, eqb, ltb}
+use lib.Dec.{T, eqb, ltb, leb}
 use lib.ListN.{get_or}
 use borrow.Author.Tests.{le-ltb, ltb-false}
 use Rattle.bits.specs.Word.{bit, all}
 use Rattle.bits.specs.Says.{Says}
 use Rattle.bits.proofs.Laws.{lt_or_ge, bit_all, bit_not}
 use Rattle.bits.proofs.Truths.{true_T}
-use Rattle.bits.proofs.Sayings.{says_map, say_yes, say_no}
+use Rattle.bits.proofs.Sayings.{says_map, says_le, say_yes, say_no}
 use Rattle.bits.proofs.Resting.{in_word, meet_says}
 use Rattle.bits.proofs.Firsts.{all_lt}
 use Rattle.automata.specs.Table.{table_states, cell}
 use Rattle.trims.specs.Stands.{Stands, Faulty, final_outside, label_outside}
-use Rattle.trims.specs.inner.Outside.{StrayRows, StrayFinal, Judged}
+use Rattle.trims.specs.inner.Outside.{StrayLabel, StrayRows, StrayFinal, Judged}
 use Rattle.std.specs.List.{IsAnyAnswer, range_with_len}
 use Rattle.std.proofs.lemmas.List.FromFn.{length-range_with_len, get_or-range_with_len}
 use Rattle.bits.specs.Sets.{Over}
@@ -36,6 +36,11 @@ any_says {b = false} {n} {S} a = say_no (λ o. (subst (λ (j : ℕ). Says false 
   where
     no : (k : ℕ) → k < n → Says false (S (get_or (range_with_len 0 n) k 0))
     no k l = a k 0 (omega arith) (omega (arith, length-range_with_len 0 n))
+
+-- a label that is one, and leaves a state inside
+pub stray_column : {t : List ℕ} {n p q v : ℕ} → v ≡ cell t p q → v ≢ 0 → p < n → Says (leb n q) (StrayLabel t n p q)
+stray_column {n = n} {q = q} e z l =
+    says_map (λ h. record { label = λ d. z (e ∙ d); outside = inr h }) (λ x. ⊎_elim (λ h. absurd (omega arith)) (λ h. h) x.outside) (says_le n q)
 
 -- ---- the finals
 
